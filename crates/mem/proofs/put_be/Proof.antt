@@ -1,0 +1,60 @@
+use mathlib.Core.Path.{sym, _∙_, ap}
+use Prim.Native.Nat.{_+_}
+use denote.Ref.{now}
+use native.Mathlib.Omega.{arith}
+use borrow.Author.Tests.{leb-true, leb-false}
+use lib.ListN.{length}
+use Rattle.mem.specs.Number.{toBe}
+use Rattle.mem.proofs.Numbers.{length-toBe}
+use Rattle.mem.proofs.Stores.{put-part, put-out, length-part}
+use borrow.Author.Needs.{needs}
+use Rattle.mem.proofs.put_be.Statement.{statement}
+use Rattle.mem.proofs.put_be.Tie as tie
+
+within-requires : tie.Need-within-requires
+within-requires c κs = search needs
+
+add-e : tie.Need-add-e
+add-e c = omega (arith, leb-true, sym (c .before .within .ensures) ∙ c .if1 .taken)
+
+sub-store-be : tie.Need-sub-store-be
+sub-store-be c = search needs
+
+part-store-be-start : tie.Need-part-store-be-start
+part-store-be-start c = search needs
+
+part-store-be-end : tie.Need-part-store-be-end
+part-store-be-end c = omega (arith, leb-true, sym (c .before .within .ensures) ∙ c .if1 .taken)
+
+store-be-requires : tie.Need-store-be-requires
+store-be-requires c κs = search needs
+
+same-length : tie.Need-same-length
+same-length c = search needs
+
+returns : tie.Need-returns
+returns c = let t = c .before .before .before .before in
+    let a = t .before .before .before .args in
+    let h = leb-true (a .at + a .size) (length (now (a .buf))) (sym (t .before .within .ensures) ∙ t .if1 .taken) in
+    put-part (now (a .buf)) (a .at) (a .size) (c .before .before .store-be .last .0) (toBe (a .size) (a .v)) h
+    (c .before .before .store-be .ensures ∙ ap (λ n. toBe n (a .v)) (length-part (now (a .buf)) (a .at) (a .size) h))
+    (length-toBe (a .size) (a .v))
+
+returns-2 : tie.Need-returns-2
+returns-2 c = let a = c .before .before .before .args in
+    sym (put-out (now (a .buf)) (a .at) (toBe (a .size) (a .v))
+    (rw length-toBe (leb-false (a .at + a .size) (length (now (a .buf))) (sym (c .before .within .ensures) ∙ c .if1 .left))))
+
+pub put-be-spec : {M : Type 1} → statement M
+put-be-spec =
+    tie.close
+    (tie.spec
+    within-requires
+    add-e
+    sub-store-be
+    part-store-be-start
+    part-store-be-end
+    store-be-requires
+    same-length
+    returns
+    returns-2)

@@ -1,0 +1,74 @@
+use native.Mathlib.Nat.{lt-of-lt-of-le}
+use lib.Dec.{lit≤}
+use Rattle.mem.specs.Number.{signExtend}
+use Rattle.mem.proofs.Numbers.{roomy}
+use native.Mathlib.Omega.{arith}
+use borrow.Author.Needs.{needs}
+use Rattle.mem.proofs.sign_extend.Statement.{statement}
+use Rattle.mem.proofs.sign_extend.Tie as tie
+
+enum-told : tie.Need-enum-told
+enum-told c = search needs
+
+extend-from-requires : tie.Need-extend-from-requires
+extend-from-requires c κs = search needs
+
+enum-told-2 : tie.Need-enum-told-2
+enum-told-2 c = search needs
+
+extend-from-requires-2 : tie.Need-extend-from-requires-2
+extend-from-requires-2 c κs = search needs
+
+enum-told-3 : tie.Need-enum-told-3
+enum-told-3 c = search needs
+
+extend-from-requires-3 : tie.Need-extend-from-requires-3
+extend-from-requires-3 c κs = search needs
+
+enum-told-4 : tie.Need-enum-told-4
+enum-told-4 c = search needs
+
+extend-from-requires-4 : tie.Need-extend-from-requires-4
+extend-from-requires-4 c κs = search needs
+
+enum-told-5 : tie.Need-enum-told-5
+enum-told-5 c = search needs
+
+returns : tie.Need-returns
+unfolding signExtend
+returns c = rw (c .before .enum-told .given .1) (c .extend-from .ensures)
+
+returns-2 : tie.Need-returns-2
+unfolding signExtend
+returns-2 c = rw (c .before .enum-told2 .given .1) (c .extend-from2 .ensures)
+
+returns-3 : tie.Need-returns-3
+unfolding signExtend
+returns-3 c = rw (c .before .enum-told3 .given .1) (c .extend-from3 .ensures)
+
+returns-4 : tie.Need-returns-4
+unfolding signExtend
+returns-4 c = rw (c .before .enum-told4 .given .1) (c .extend-from4 .ensures)
+
+returns-5 : tie.Need-returns-5
+unfolding signExtend
+returns-5 c = rw (c .enum-told5 .given .1) (roomy _ _ (lt-of-lt-of-le (c .before .before .fits .v .fits) (lit≤ tt)))
+
+pub sign-extend-spec : {M : Type 1} → statement M
+sign-extend-spec =
+    tie.close
+    (tie.spec
+    enum-told
+    extend-from-requires
+    enum-told-2
+    extend-from-requires-2
+    enum-told-3
+    extend-from-requires-3
+    enum-told-4
+    extend-from-requires-4
+    enum-told-5
+    returns
+    returns-2
+    returns-3
+    returns-4
+    returns-5)

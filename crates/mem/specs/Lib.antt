@@ -1,0 +1,4 @@
+pub mod Number
+pub mod Place
+pub mod Store
+pub mod Claims
