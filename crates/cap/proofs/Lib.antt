@@ -1,0 +1,4 @@
+pub mod Lines
+pub mod Narrows
+pub mod Perms
+pub mod Sums

@@ -1,0 +1,21 @@
+use mathlib.Core.Path.{ap}
+use borrow.Author.Tests.{eq-eqb, ne-eqb}
+use Rattle.cap.specs.Line.{capIn}
+use Rattle.cap.specs.declared.line.LoadedCap.{LoadedCap}
+use borrow.Author.Needs.{needs}
+use Rattle.cap.proofs.line.cap_in.Statement.{statement}
+use Rattle.cap.proofs.line.cap_in.Tie as tie
+
+read-line-requires : tie.Need-read-line-requires
+read-line-requires c κs = search needs
+
+returns : tie.Need-returns
+unfolding capIn
+returns c = rw (eq-eqb _ _ (c .before .if1 .taken)) (ap LoadedCap.Value (c .read-line .ensures))
+
+returns-2 : tie.Need-returns-2
+unfolding capIn
+returns-2 c = rw (ne-eqb _ _ (c .if1 .left))
+
+pub cap-in-spec : {M : Type 1} → statement M
+cap-in-spec = tie.close (tie.spec read-line-requires returns returns-2)

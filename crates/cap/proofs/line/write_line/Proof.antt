@@ -1,0 +1,56 @@
+use denote.Ref.{now}
+use Rattle.mem.specs.Number.{addressAt}
+use Rattle.cap.specs.Line.{encode, firstWord}
+use Rattle.cap.proofs.Lines.{line-of}
+use borrow.Author.Needs.{needs}
+use Rattle.cap.proofs.line.write_line.Statement.{statement}
+use Rattle.cap.proofs.line.write_line.Tie as tie
+
+first-word-requires : tie.Need-first-word-requires
+first-word-requires c κs = search needs
+
+address-at-requires : tie.Need-address-at-requires
+address-at-requires c κs = search needs
+
+put-be-requires : tie.Need-put-be-requires
+put-be-requires c κs = search needs
+
+put-be-requires-2 : tie.Need-put-be-requires-2
+put-be-requires-2 c κs = search needs
+
+put-be-requires-3 : tie.Need-put-be-requires-3
+put-be-requires-3 c κs = search needs
+
+put-be-requires-4 : tie.Need-put-be-requires-4
+put-be-requires-4 c κs = search needs
+
+same-length : tie.Need-same-length
+same-length c = search needs
+
+returns : tie.Need-returns
+unfolding encode
+returns c = let p = c .before .before .before .before .before .before .before .before .before .before .before .before .before .before in
+    let b = p .before .before .before .before .before in
+    let a = b .args .c in
+    rw (
+      c .before .before .put-be4 .ensures,
+      c .before .before .before .before .before .before .put-be3 .ensures,
+      c .before .before .before .before .before .before .before .before .before .before .put-be2 .ensures,
+      p .put-be .ensures,
+      p .before .before .address-at .ensures,
+      p .before .before .before .first-word .ensures,
+    )
+    (line-of (now (b .args .line)) (firstWord a) (addressAt (a .base) (a .offset) .0) (a .base .0) (a .length) (b .pre))
+
+pub write-line-spec : {M : Type 1} → statement M
+write-line-spec =
+    tie.close
+    (tie.spec
+    first-word-requires
+    address-at-requires
+    put-be-requires
+    put-be-requires-2
+    put-be-requires-3
+    put-be-requires-4
+    same-length
+    returns)

@@ -1,0 +1,15 @@
+use mathlib.Core.Path.{refl}
+use Rattle.cap.specs.Narrow.{andPerms}
+use borrow.Author.Needs.{needs}
+use Rattle.cap.proofs.narrow.and_perms.Statement.{statement}
+use Rattle.cap.proofs.narrow.and_perms.Tie as tie
+
+cast-d : tie.Need-cast-d
+cast-d c = search needs
+
+returns : tie.Need-returns
+unfolding andPerms
+returns c = refl
+
+pub and-perms-spec : {M : Type 1} → statement M
+and-perms-spec = tie.close (tie.spec cast-d returns)

@@ -1,0 +1,20 @@
+use mathlib.Core.Path.{ap}
+use mathlib.Core.Bool.{true}
+use Rattle.cap.specs.Narrow.{withSeal, sealedBy}
+use Rattle.cap.proofs.Narrows.{type-of}
+use borrow.Author.Needs.{needs}
+use Rattle.cap.proofs.narrow.seal.Statement.{statement}
+use Rattle.cap.proofs.narrow.seal.Tie as tie
+
+address-at-requires : tie.Need-address-at-requires
+address-at-requires c κs = search needs
+
+cast-d : tie.Need-cast-d
+cast-d c = search needs
+
+returns : tie.Need-returns
+unfolding sealedBy
+returns c = ap (withSeal (c .before .before .args .c) true) (type-of _ _ _ (c .before .address-at .ensures))
+
+pub seal-spec : {M : Type 1} → statement M
+seal-spec = tie.close (tie.spec address-at-requires cast-d returns)

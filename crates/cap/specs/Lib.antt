@@ -1,0 +1,6 @@
+pub mod Cap
+pub mod Line
+pub mod Narrow
+pub mod Access
+pub mod Sum
+pub mod Claims
