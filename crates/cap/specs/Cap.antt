@@ -1,6 +1,7 @@
 -- Capabilities: permissions, widths, and the registers that a permission opens (004, chapter 3).
 use Prim.Native.Nat.{ℕ, _+_, _/_, _%_, _^_, _<_}
 use mathlib.Core.Bool.{Bool, true, cond, _&&_, _||_}
+use mathlib.Core.List.{List, [], _∷_}
 use lib.Dec.{eqb, ltb}
 use Rattle.cap.specs.declared.Cap.{Cap}
 
@@ -47,6 +48,11 @@ ACCESS-KR2C = 14
 -- no field of 31 bits grants it
 abbrev pub NO-PERMISSION : ℕ
 NO-PERMISSION = 32
+
+abbrev pub permissionTable : List ℕ
+permissionTable =
+    GLOBAL ∷ EXECUTE ∷ LOAD ∷ STORE ∷ LOAD-CAPABILITY ∷ STORE-CAPABILITY ∷ STORE-LOCAL ∷ SEAL
+    ∷ ACCESS-EPCC ∷ ACCESS-KDC ∷ ACCESS-KCC ∷ ACCESS-KR1C ∷ ACCESS-KR2C ∷ NO-PERMISSION ∷ []
 
 -- whether a permissions field grants the permission of this number
 unfoldable pub permitted : ℕ → ℕ → Bool

@@ -5,7 +5,7 @@ ghost use mathlib.Core.Path.{_≡_};
 ghost use Prim.Native.Nat.{ℕ, _+_, _^_};
 ghost use lib.Dec.{ltb};
 ghost use Rattle.cap.specs.Claims.{CapIsKept, BitsAreKept, TopIsEmpty};
-ghost use Rattle.cap.specs.Cap.{permitted, inWidths, accessBit, registerOpen};
+ghost use Rattle.cap.specs.Cap.{permissionTable, permitted, inWidths, accessBit, registerOpen};
 
 pub mod access;
 pub mod line;
@@ -50,6 +50,28 @@ pub const ACCESS_KR2C: u32 = 14;
 
 // No permission has this number, so it is never granted.
 pub const NO_PERMISSION: u32 = 32;
+
+// The numbers named above are those of the definitions.
+pub fn permission_table() -> [u32; 14]
+    ensures { λ r. ⌜ r ≡ permissionTable ⌝ }
+{
+    [
+        GLOBAL,
+        EXECUTE,
+        LOAD,
+        STORE,
+        LOAD_CAPABILITY,
+        STORE_CAPABILITY,
+        STORE_LOCAL,
+        SEAL,
+        ACCESS_EPCC,
+        ACCESS_KDC,
+        ACCESS_KCC,
+        ACCESS_KR1C,
+        ACCESS_KR2C,
+        NO_PERMISSION,
+    ]
+}
 
 // Whether a permissions field grants the permission of this number.
 pub fn permits(perms: u32, number: u32) -> bool

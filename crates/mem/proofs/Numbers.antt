@@ -9,7 +9,7 @@ use lib.Arith.{digits-lt, digits-div, mod-mul}
 use lib.ListN.{length, getD, take, drop, set, length-append}
 use lib.Seq.{take-suc, take-length, set-at, length-take-le}
 use borrow.Author.Tests.{eq-eqb, ne-eqb}
-use Rattle.mem.specs.Number.{Bytes, be, toBe, extendFrom, bytesIn}
+use Rattle.mem.specs.Number.{Bytes, be, toBe, extendFrom, bytesIn, minusMod}
 use Rattle.mem.specs.declared.Size.{Size}
 use Rattle.mem.specs.declared.Size.the-variants.{One, Two, Four, Eight, Line}
 
@@ -101,6 +101,11 @@ store-left n v i h h′ =
 
 pub store-all : (p : List ℕ) (v i : ℕ) → i ≤ 0 → take i p ++ toBe (length p - i) v ≡ toBe (length p) v
 store-all p v i h = let e : i ≡ 0 = omega arith in rw (e, sub-zero)
+
+-- a difference mod 2^64, as a wrapping subtraction tells it
+pub difference : (a b r : ℕ) → (r + b) % 2 ^ 64 ≡ a → b < 2 ^ 64 → r < 2 ^ 64 → r ≡ minusMod a b
+unfolding minusMod
+difference a b r e hb hr = omega arith
 
 -- an access has a byte
 pub some-bytes : (size : Size) → 0 < bytesIn size

@@ -1,7 +1,5 @@
-use Prim.Native.Nat.{_+_, _-_, _%_, _^_}
-use mathlib.Core.Path.{_≡_}
 use native.Mathlib.Omega.{arith}
-use Rattle.mem.specs.Number.{minusMod}
+use Rattle.mem.proofs.Numbers.{difference}
 use Rattle.cap.specs.Narrow.{incBase}
 use borrow.Author.Needs.{needs}
 use Rattle.cap.proofs.narrow.inc_base.Statement.{statement}
@@ -14,10 +12,8 @@ wrapping-sub-u64-requires : tie.Need-wrapping-sub-u64-requires
 wrapping-sub-u64-requires c κs = search needs
 
 returns : tie.Need-returns
-unfolding incBase minusMod
-returns c = let a = c .before .before .args in
-    let e : c .wrapping-sub-u64 .result ≡ (a .c .length + (2 ^ 64 - a .by)) % 2 ^ 64 = omega arith in
-    rw (c .before .address-at .ensures, e)
+unfolding incBase
+returns c = rw (c .before .address-at .ensures, difference _ _ _ (c .wrapping-sub-u64 .ensures) (omega arith) (omega arith))
 
 pub inc-base-spec : {M : Type 1} → statement M
 inc-base-spec = tie.close (tie.spec address-at-requires wrapping-sub-u64-requires returns)
