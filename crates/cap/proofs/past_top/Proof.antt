@@ -8,12 +8,6 @@ use Rattle.cap.proofs.past_top.Tie as tie
 returns : tie.Need-returns
 returns c = sym (omega (arith, le-ltb))
 
-sub-if2 : tie.Need-sub-if2
-sub-if2 c = search needs
-
-sub-if2-2 : tie.Need-sub-if2-2
-sub-if2-2 c = search needs
-
 returns-2 : tie.Need-returns-2
 returns-2 c = sym (omega (arith, lt-ltb))
 
@@ -21,4 +15,11 @@ returns-3 : tie.Need-returns-3
 returns-3 c = sym (omega (arith, le-ltb))
 
 pub past-top-spec : {M : Type 1} → statement M
-past-top-spec = tie.close (tie.spec returns sub-if2 sub-if2-2 returns-2 returns-3)
+past-top-spec =
+    tie.close
+    (tie.spec
+    returns
+    (λ c. search needs)
+    (λ c. search needs)
+    returns-2
+    returns-3)

@@ -5,9 +5,6 @@ use borrow.Author.Needs.{needs}
 use Rattle.cap.proofs.permits.Statement.{statement}
 use Rattle.cap.proofs.permits.Tie as tie
 
-shr-result : tie.Need-shr-result
-shr-result c = search needs
-
 returns : tie.Need-returns
 unfolding permitted
 returns c = search needs
@@ -16,4 +13,9 @@ returns-2 : tie.Need-returns-2
 returns-2 c = none-past _ _ (omega arith) (c .if1 .left)
 
 pub permits-spec : {M : Type 1} → statement M
-permits-spec = tie.close (tie.spec shr-result returns returns-2)
+permits-spec =
+    tie.close
+    (tie.spec
+    (λ c. search needs)
+    returns
+    returns-2)

@@ -1,16 +1,10 @@
+use Rattle.mem.proofs.Calls.{asks}
 use native.Mathlib.Omega.{arith}
 use mathlib.Core.Path.{_∙_, ap}
 use borrow.Author.Tests.{lt-ltb, le-ltb}
 use Rattle.cap.specs.Cap.{permitted, registerOpen}
-use borrow.Author.Needs.{needs}
 use Rattle.cap.proofs.register_open.Statement.{statement}
 use Rattle.cap.proofs.register_open.Tie as tie
-
-access-bit-requires : tie.Need-access-bit-requires
-access-bit-requires c κs = search needs
-
-permits-requires : tie.Need-permits-requires
-permits-requires c κs = search needs
 
 returns : tie.Need-returns
 unfolding registerOpen
@@ -21,4 +15,9 @@ unfolding registerOpen
 returns-2 c = rw (le-ltb _ _ (c .before .before .if1 .left)) (c .permits .ensures ∙ ap (permitted _) (c .before .access-bit .ensures))
 
 pub register-open-spec : {M : Type 1} → statement M
-register-open-spec = tie.close (tie.spec access-bit-requires permits-requires returns returns-2)
+register-open-spec =
+    tie.close
+    (tie.spec
+    asks asks
+    returns
+    returns-2)

@@ -1,3 +1,4 @@
+use Rattle.mem.proofs.Calls.{asks}
 use mathlib.Core.Path.{sym, _∙_}
 use native.Mathlib.Omega.{arith}
 use native.Mathlib.Nat.{add-sub-cancel-left}
@@ -7,17 +8,8 @@ use borrow.Author.Needs.{needs}
 use Rattle.mem.proofs.bytes_of.Statement.{statement}
 use Rattle.mem.proofs.bytes_of.Tie as tie
 
-within-requires : tie.Need-within-requires
-within-requires c κs = search needs
-
 add-result : tie.Need-add-result
 add-result c = omega (arith, leb-true, sym (c .before .within .ensures) ∙ c .if1 .taken)
-
-sub-result : tie.Need-sub-result
-sub-result c = search needs
-
-part-result-start : tie.Need-part-result-start
-part-result-start c = search needs
 
 part-result-end : tie.Need-part-result-end
 part-result-end c = omega (arith, leb-true, sym (c .before .within .ensures) ∙ c .if1 .taken)
@@ -26,24 +18,12 @@ returns : tie.Need-returns
 unfolding bytesOf placeOf
 returns c = simp (← c .before .before .within .ensures, c .before .if1 .taken, add-sub-cancel-left)
 
-slice-aggregate-result : tie.Need-slice-aggregate-result
-slice-aggregate-result c = search needs
-
 returns-2 : tie.Need-returns-2
 unfolding bytesOf placeOf
 returns-2 c = simp (← c .before .before .before .within .ensures, c .before .before .if1 .left, lt-ltb _ _ (c .before .if2 .taken))
 
-within-requires-2 : tie.Need-within-requires-2
-within-requires-2 c κs = search needs
-
 add-result-2 : tie.Need-add-result-2
 add-result-2 c = omega (arith, leb-true, sym (c .before .within2 .ensures) ∙ c .if3 .taken)
-
-sub-result-2 : tie.Need-sub-result-2
-sub-result-2 c = search needs
-
-part-result-start-2 : tie.Need-part-result-start-2
-part-result-start-2 c = search needs
 
 part-result-end-2 : tie.Need-part-result-end-2
 part-result-end-2 c = omega (arith, leb-true, sym (c .before .within2 .ensures) ∙ c .if3 .taken)
@@ -51,9 +31,6 @@ part-result-end-2 c = omega (arith, leb-true, sym (c .before .within2 .ensures) 
 returns-3 : tie.Need-returns-3
 unfolding bytesOf placeOf
 returns-3 c = simp (← c .before .before .before .before .before .within .ensures, c .before .before .before .before .if1 .left, le-ltb _ _ (c .before .before .before .if2 .left), ← c .before .before .within2 .ensures, c .before .if3 .taken, add-sub-cancel-left)
-
-slice-aggregate-result-2 : tie.Need-slice-aggregate-result-2
-slice-aggregate-result-2 c = search needs
 
 returns-4 : tie.Need-returns-4
 unfolding bytesOf placeOf
@@ -63,19 +40,19 @@ pub bytes-of-spec : {M : Type 1} → statement M
 bytes-of-spec =
     tie.close
     (tie.spec
-    within-requires
+    asks
     add-result
-    sub-result
-    part-result-start
+    (λ c. search needs)
+    (λ c. search needs)
     part-result-end
     returns
-    slice-aggregate-result
+    (λ c. search needs)
     returns-2
-    within-requires-2
+    asks
     add-result-2
-    sub-result-2
-    part-result-start-2
+    (λ c. search needs)
+    (λ c. search needs)
     part-result-end-2
     returns-3
-    slice-aggregate-result-2
+    (λ c. search needs)
     returns-4)

@@ -1,14 +1,15 @@
+use Rattle.mem.proofs.Calls.{asks}
 use Rattle.mem.proofs.Numbers.{difference}
 use native.Mathlib.Omega.{arith}
-use borrow.Author.Needs.{needs}
 use Rattle.mem.proofs.offset_to.Statement.{statement}
 use Rattle.mem.proofs.offset_to.Tie as tie
-
-wrapping-sub-u64-requires : tie.Need-wrapping-sub-u64-requires
-wrapping-sub-u64-requires c κs = search needs
 
 returns : tie.Need-returns
 returns c = λ i. record { 0 = difference _ _ _ (c .wrapping-sub-u64 .ensures) (omega arith) (omega arith) i }
 
 pub offset-to-spec : {M : Type 1} → statement M
-offset-to-spec = tie.close (tie.spec wrapping-sub-u64-requires returns)
+offset-to-spec =
+    tie.close
+    (tie.spec
+    asks
+    returns)

@@ -1,11 +1,8 @@
+use Rattle.mem.proofs.Calls.{asks}
 use borrow.Author.Tests.{lt-ltb, le-ltb}
 use Rattle.mem.specs.Place.{placeOf}
-use borrow.Author.Needs.{needs}
 use Rattle.mem.proofs.place_of.Statement.{statement}
 use Rattle.mem.proofs.place_of.Tie as tie
-
-within-requires : tie.Need-within-requires
-within-requires c κs = search needs
 
 returns : tie.Need-returns
 unfolding placeOf
@@ -14,9 +11,6 @@ returns c = simp (← c .before .within .ensures, c .if1 .taken)
 returns-2 : tie.Need-returns-2
 unfolding placeOf
 returns-2 c = simp (← c .before .before .within .ensures, c .before .if1 .left, lt-ltb _ _ (c .if2 .taken))
-
-within-requires-2 : tie.Need-within-requires-2
-within-requires-2 c κs = search needs
 
 returns-3 : tie.Need-returns-3
 unfolding placeOf
@@ -28,4 +22,11 @@ returns-4 c = simp (← c .before .before .before .before .within .ensures, c .b
 
 pub place-of-spec : {M : Type 1} → statement M
 place-of-spec =
-    tie.close (tie.spec within-requires returns returns-2 within-requires-2 returns-3 returns-4)
+    tie.close
+    (tie.spec
+    asks
+    returns
+    returns-2
+    asks
+    returns-3
+    returns-4)

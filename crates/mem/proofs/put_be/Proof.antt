@@ -1,3 +1,4 @@
+use Rattle.mem.proofs.Calls.{asks}
 use mathlib.Core.Path.{sym, _∙_, ap}
 use Prim.Native.Nat.{_+_}
 use denote.Ref.{now}
@@ -11,26 +12,11 @@ use borrow.Author.Needs.{needs}
 use Rattle.mem.proofs.put_be.Statement.{statement}
 use Rattle.mem.proofs.put_be.Tie as tie
 
-within-requires : tie.Need-within-requires
-within-requires c κs = search needs
-
 add-e : tie.Need-add-e
 add-e c = omega (arith, leb-true, sym (c .before .within .ensures) ∙ c .if1 .taken)
 
-sub-store-be : tie.Need-sub-store-be
-sub-store-be c = search needs
-
-part-store-be-start : tie.Need-part-store-be-start
-part-store-be-start c = search needs
-
 part-store-be-end : tie.Need-part-store-be-end
 part-store-be-end c = omega (arith, leb-true, sym (c .before .within .ensures) ∙ c .if1 .taken)
-
-store-be-requires : tie.Need-store-be-requires
-store-be-requires c κs = search needs
-
-same-length : tie.Need-same-length
-same-length c = search needs
 
 returns : tie.Need-returns
 returns c = let t = c .before .before .before .before in
@@ -49,12 +35,12 @@ pub put-be-spec : {M : Type 1} → statement M
 put-be-spec =
     tie.close
     (tie.spec
-    within-requires
+    asks
     add-e
-    sub-store-be
-    part-store-be-start
+    (λ c. search needs)
+    (λ c. search needs)
     part-store-be-end
-    store-be-requires
-    same-length
+    asks
+    (λ c. search needs)
     returns
     returns-2)

@@ -7,33 +7,6 @@ use borrow.Author.Needs.{needs}
 use Rattle.mem.proofs.sign_extend.Statement.{statement}
 use Rattle.mem.proofs.sign_extend.Tie as tie
 
-enum-told : tie.Need-enum-told
-enum-told c = search needs
-
-extend-from-requires : tie.Need-extend-from-requires
-extend-from-requires c κs = search needs
-
-enum-told-2 : tie.Need-enum-told-2
-enum-told-2 c = search needs
-
-extend-from-requires-2 : tie.Need-extend-from-requires-2
-extend-from-requires-2 c κs = search needs
-
-enum-told-3 : tie.Need-enum-told-3
-enum-told-3 c = search needs
-
-extend-from-requires-3 : tie.Need-extend-from-requires-3
-extend-from-requires-3 c κs = search needs
-
-enum-told-4 : tie.Need-enum-told-4
-enum-told-4 c = search needs
-
-extend-from-requires-4 : tie.Need-extend-from-requires-4
-extend-from-requires-4 c κs = search needs
-
-enum-told-5 : tie.Need-enum-told-5
-enum-told-5 c = search needs
-
 returns : tie.Need-returns
 unfolding signExtend
 returns c = rw (c .before .enum-told .given .1) (c .extend-from .ensures)
@@ -58,15 +31,15 @@ pub sign-extend-spec : {M : Type 1} → statement M
 sign-extend-spec =
     tie.close
     (tie.spec
-    enum-told
-    extend-from-requires
-    enum-told-2
-    extend-from-requires-2
-    enum-told-3
-    extend-from-requires-3
-    enum-told-4
-    extend-from-requires-4
-    enum-told-5
+    (λ c. search needs)
+    (λ c κs. search needs)
+    (λ c. search needs)
+    (λ c κs. search needs)
+    (λ c. search needs)
+    (λ c κs. search needs)
+    (λ c. search needs)
+    (λ c κs. search needs)
+    (λ c. search needs)
     returns
     returns-2
     returns-3

@@ -7,9 +7,6 @@ use borrow.Author.Needs.{needs}
 use Rattle.mem.proofs.tag_of.Statement.{statement}
 use Rattle.mem.proofs.tag_of.Tie as tie
 
-shared-slice-read-if2 : tie.Need-shared-slice-read-if2
-shared-slice-read-if2 c = search needs
-
 returns : tie.Need-returns
 unfolding tagOf
 returns c = sym (eq-eqb _ _ (c .if2 .taken))
@@ -23,4 +20,10 @@ unfolding tagOf
 returns-3 c = rw (List·getD-eq-default {A = ℕ} _ 0 (c .if1 .left))
 
 pub tag-of-spec : {M : Type 1} → statement M
-tag-of-spec = tie.close (tie.spec shared-slice-read-if2 returns returns-2 returns-3)
+tag-of-spec =
+    tie.close
+    (tie.spec
+    (λ c. search needs)
+    returns
+    returns-2
+    returns-3)

@@ -1,3 +1,4 @@
+use Rattle.mem.proofs.Calls.{asks}
 use mathlib.Core.Path.{sym, ap}
 use lib.ListN.{set}
 use lib.Seq.{set-out}
@@ -6,15 +7,6 @@ use Rattle.mem.specs.Store.{withTag}
 use borrow.Author.Needs.{needs}
 use Rattle.mem.proofs.with_tag.Statement.{statement}
 use Rattle.mem.proofs.with_tag.Tie as tie
-
-tag-byte-requires : tie.Need-tag-byte-requires
-tag-byte-requires c κs = search needs
-
-slice-write-tags : tie.Need-slice-write-tags
-slice-write-tags c = search needs
-
-same-length : tie.Need-same-length
-same-length c = search needs
 
 returns : tie.Need-returns
 unfolding withTag
@@ -26,4 +18,10 @@ returns-2 c = sym (set-out _ _ _ (c .if1 .left))
 
 pub with-tag-spec : {M : Type 1} → statement M
 with-tag-spec =
-    tie.close (tie.spec tag-byte-requires slice-write-tags same-length returns returns-2)
+    tie.close
+    (tie.spec
+    asks
+    (λ c. search needs)
+    (λ c. search needs)
+    returns
+    returns-2)

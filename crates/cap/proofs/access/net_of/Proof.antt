@@ -4,15 +4,6 @@ use borrow.Author.Needs.{needs}
 use Rattle.cap.proofs.access.net_of.Statement.{statement}
 use Rattle.cap.proofs.access.net_of.Tie as tie
 
-sub-if2 : tie.Need-sub-if2
-sub-if2 c = search needs
-
-add-t11 : tie.Need-add-t11
-add-t11 c = search needs
-
-sub-k : tie.Need-sub-k
-sub-k c = search needs
-
 returns : tie.Need-returns
 returns c = net-at _ _ _ (omega arith) (omega arith) (omega arith)
 
@@ -26,4 +17,13 @@ returns-4 : tie.Need-returns-4
 returns-4 c = net-low _ _ (omega arith)
 
 pub net-of-spec : {M : Type 1} → statement M
-net-of-spec = tie.close (tie.spec sub-if2 add-t11 sub-k returns returns-2 returns-3 returns-4)
+net-of-spec =
+    tie.close
+    (tie.spec
+    (λ c. search needs)
+    (λ c. search needs)
+    (λ c. search needs)
+    returns
+    returns-2
+    returns-3
+    returns-4)

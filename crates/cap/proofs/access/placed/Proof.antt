@@ -1,3 +1,4 @@
+use Rattle.mem.proofs.Calls.{asks}
 use Prim.Native.Nat.{_+_, _^_, _≤_}
 use mathlib.Core.Path.{_≡_, sym, _∙_, ap}
 use mathlib.Core.Bool.{Bool, cond}
@@ -12,29 +13,14 @@ use borrow.Author.Needs.{needs}
 use Rattle.cap.proofs.access.placed.Statement.{statement}
 use Rattle.cap.proofs.access.placed.Tie as tie
 
-size-bytes-requires : tie.Need-size-bytes-requires
-size-bytes-requires c κs = search needs
-
 returns : tie.Need-returns
 returns c = too-long _ _ _ _ (omega arith)
 
 returns-2 : tie.Need-returns-2
 returns-2 c = too-long _ _ _ _ (omega arith)
 
-add-past-top : tie.Need-add-past-top
-add-past-top c = search needs
-
-past-top-requires : tie.Need-past-top-requires
-past-top-requires c κs = search needs
-
 returns-3 : tie.Need-returns-3
 returns-3 c = too-high _ _ _ _ (omega arith) (omega (arith, ltb-true, sym (c .before .past-top .ensures) ∙ c .if3 .taken))
-
-address-at-requires : tie.Need-address-at-requires
-address-at-requires c κs = search needs
-
-is-aligned-requires : tie.Need-is-aligned-requires
-is-aligned-requires c κs = search needs
 
 -- past the range tests, the answer is the alignment's
 fits-and-is : (c : tie.After-is-aligned)
@@ -59,13 +45,12 @@ pub placed-spec : {M : Type 1} → statement M
 placed-spec =
     tie.close
     (tie.spec
-    size-bytes-requires
+    asks
     returns
     returns-2
-    add-past-top
-    past-top-requires
+    (λ c. search needs)
+    asks
     returns-3
-    address-at-requires
-    is-aligned-requires
+    asks asks
     returns-4
     returns-5)

@@ -6,9 +6,6 @@ use borrow.Author.Needs.{needs}
 use Rattle.cap.proofs.line.cap_in.Statement.{statement}
 use Rattle.cap.proofs.line.cap_in.Tie as tie
 
-read-line-requires : tie.Need-read-line-requires
-read-line-requires c κs = search needs
-
 returns : tie.Need-returns
 unfolding capIn
 returns c = rw (eq-eqb _ _ (c .before .if1 .taken)) (ap LoadedCap.Value (c .read-line .ensures))
@@ -18,4 +15,9 @@ unfolding capIn
 returns-2 c = rw (ne-eqb _ _ (c .if1 .left))
 
 pub cap-in-spec : {M : Type 1} → statement M
-cap-in-spec = tie.close (tie.spec read-line-requires returns returns-2)
+cap-in-spec =
+    tie.close
+    (tie.spec
+    (λ c κs. search needs)
+    returns
+    returns-2)

@@ -5,30 +5,6 @@ use borrow.Author.Needs.{needs}
 use Rattle.cap.proofs.line.first_word.Statement.{statement}
 use Rattle.cap.proofs.line.first_word.Tie as tie
 
-cast-result : tie.Need-cast-result
-cast-result c = search needs
-
-mul-result : tie.Need-mul-result
-mul-result c = search needs
-
-cast-result-2 : tie.Need-cast-result-2
-cast-result-2 c = search needs
-
-mul-result-2 : tie.Need-mul-result-2
-mul-result-2 c = search needs
-
-add-result : tie.Need-add-result
-add-result c = search needs
-
-cast-result-3 : tie.Need-cast-result-3
-cast-result-3 c = search needs
-
-mul-result-3 : tie.Need-mul-result-3
-mul-result-3 c = search needs
-
-add-result-2 : tie.Need-add-result-2
-add-result-2 c = search needs
-
 add-result-3 : tie.Need-add-result-3
 add-result-3 c = ⊎-elim (λ w. omega arith) (λ w. omega arith) (c .before .before .before .before .if1 .came)
 
@@ -40,13 +16,13 @@ pub first-word-spec : {M : Type 1} → statement M
 first-word-spec =
     tie.close
     (tie.spec
-    cast-result
-    mul-result
-    cast-result-2
-    mul-result-2
-    add-result
-    cast-result-3
-    mul-result-3
-    add-result-2
+    (λ c. search needs)
+    (λ c. search needs)
+    (λ c. search needs)
+    (λ c. search needs)
+    (λ c. search needs)
+    (λ c. search needs)
+    (λ c. search needs)
+    (λ c. search needs)
     add-result-3
     returns)

@@ -1,3 +1,4 @@
+use Rattle.mem.proofs.Calls.{asks}
 use Prim.Native.Nat.{_+_, _≤_}
 use lib.ListN.{length}
 use mathlib.Core.Path.{refl, sym, _∙_}
@@ -15,47 +16,17 @@ use Rattle.cap.proofs.line.store.Tie as tie
 held : (c : tie.After-known-told) → c .before .place .given .0 .0 + 32 ≤ length (now (c .before .before .before .before .before .before .args .ram))
 held c = ram-holds _ _ _ _ _ (sym (c .before .place .given .1) ∙ c .before .before .before .place-of .ensures)
 
-place-of-requires : tie.Need-place-of-requires
-place-of-requires c κs = search needs
-
-enum-told : tie.Need-enum-told
-enum-told c = search needs
-
-enum-told-2 : tie.Need-enum-told-2
-enum-told-2 c = search needs
-
-enum-known-place : tie.Need-enum-known-place
-enum-known-place c = search needs
-
 add-e : tie.Need-add-e
 add-e c = omega (arith, held c)
 
-sub-write-line : tie.Need-sub-write-line
-sub-write-line c = search needs
-
-part-write-line-start : tie.Need-part-write-line-start
-part-write-line-start c = search needs
-
 part-write-line-end : tie.Need-part-write-line-end
 part-write-line-end c = omega (arith, held c)
-
-write-line-requires : tie.Need-write-line-requires
-write-line-requires c κs = search needs
-
-with-tag-requires : tie.Need-with-tag-requires
-with-tag-requires c κs = search needs
 
 returns : tie.Need-returns
 returns c = rw (← sym (c .enum-told .given .1) ∙ c .before .before .place-of .ensures) (refl, (refl, refl))
 
 returns-2 : tie.Need-returns-2
 returns-2 c = rw (← sym (c .enum-told2 .given .1) ∙ c .before .before .place-of .ensures) (refl, (refl, refl))
-
-same-length : tie.Need-same-length
-same-length c = search needs
-
-same-length-2 : tie.Need-same-length-2
-same-length-2 c = search needs
 
 returns-3 : tie.Need-returns-3
 returns-3 c = let p = c .before .before .before .before .before .before .before .before in
@@ -67,18 +38,18 @@ pub store-spec : {M : Type 1} → statement M
 store-spec =
     tie.close
     (tie.spec
-    place-of-requires
-    enum-told
-    enum-told-2
-    enum-known-place
+    asks
+    (λ c. search needs)
+    (λ c. search needs)
+    (λ c. search needs)
     add-e
-    sub-write-line
-    part-write-line-start
+    (λ c. search needs)
+    (λ c. search needs)
     part-write-line-end
-    write-line-requires
-    with-tag-requires
+    (λ c κs. search needs)
+    asks
     returns
     returns-2
-    same-length
-    same-length-2
+    (λ c. search needs)
+    (λ c. search needs)
     returns-3)

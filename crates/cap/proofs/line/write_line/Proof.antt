@@ -1,3 +1,4 @@
+use Rattle.mem.proofs.Calls.{asks}
 use denote.Ref.{now}
 use Rattle.mem.specs.Number.{addressAt}
 use Rattle.cap.specs.Line.{encode, firstWord}
@@ -5,27 +6,6 @@ use Rattle.cap.proofs.Lines.{line-of}
 use borrow.Author.Needs.{needs}
 use Rattle.cap.proofs.line.write_line.Statement.{statement}
 use Rattle.cap.proofs.line.write_line.Tie as tie
-
-first-word-requires : tie.Need-first-word-requires
-first-word-requires c κs = search needs
-
-address-at-requires : tie.Need-address-at-requires
-address-at-requires c κs = search needs
-
-put-be-requires : tie.Need-put-be-requires
-put-be-requires c κs = search needs
-
-put-be-requires-2 : tie.Need-put-be-requires-2
-put-be-requires-2 c κs = search needs
-
-put-be-requires-3 : tie.Need-put-be-requires-3
-put-be-requires-3 c κs = search needs
-
-put-be-requires-4 : tie.Need-put-be-requires-4
-put-be-requires-4 c κs = search needs
-
-same-length : tie.Need-same-length
-same-length c = search needs
 
 returns : tie.Need-returns
 unfolding encode
@@ -46,11 +26,6 @@ pub write-line-spec : {M : Type 1} → statement M
 write-line-spec =
     tie.close
     (tie.spec
-    first-word-requires
-    address-at-requires
-    put-be-requires
-    put-be-requires-2
-    put-be-requires-3
-    put-be-requires-4
-    same-length
+    asks asks asks asks asks asks
+    (λ c. search needs)
     returns)

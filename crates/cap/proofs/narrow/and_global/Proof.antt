@@ -1,13 +1,8 @@
+use Rattle.mem.proofs.Calls.{asks}
 use Rattle.cap.specs.Narrow.{andGlobal}
 use borrow.Author.Needs.{needs}
 use Rattle.cap.proofs.narrow.and_global.Statement.{statement}
 use Rattle.cap.proofs.narrow.and_global.Tie as tie
-
-permits-requires : tie.Need-permits-requires
-permits-requires c κs = search needs
-
-mul-result : tie.Need-mul-result
-mul-result c = search needs
 
 returns : tie.Need-returns
 unfolding andGlobal
@@ -18,4 +13,10 @@ unfolding andGlobal
 returns-2 c = rw (← c .before .permits .ensures, c .if1 .left)
 
 pub and-global-spec : {M : Type 1} → statement M
-and-global-spec = tie.close (tie.spec permits-requires mul-result returns returns-2)
+and-global-spec =
+    tie.close
+    (tie.spec
+    asks
+    (λ c. search needs)
+    returns
+    returns-2)

@@ -4,12 +4,13 @@ use borrow.Author.Needs.{needs}
 use Rattle.cap.proofs.narrow.and_perms.Statement.{statement}
 use Rattle.cap.proofs.narrow.and_perms.Tie as tie
 
-cast-d : tie.Need-cast-d
-cast-d c = search needs
-
 returns : tie.Need-returns
 unfolding andPerms
 returns c = refl
 
 pub and-perms-spec : {M : Type 1} → statement M
-and-perms-spec = tie.close (tie.spec cast-d returns)
+and-perms-spec =
+    tie.close
+    (tie.spec
+    (λ c. search needs)
+    returns)

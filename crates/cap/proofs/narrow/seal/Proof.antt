@@ -1,3 +1,4 @@
+use Rattle.mem.proofs.Calls.{asks}
 use mathlib.Core.Path.{ap}
 use mathlib.Core.Bool.{true}
 use Rattle.cap.specs.Narrow.{withSeal, sealedBy}
@@ -6,15 +7,14 @@ use borrow.Author.Needs.{needs}
 use Rattle.cap.proofs.narrow.seal.Statement.{statement}
 use Rattle.cap.proofs.narrow.seal.Tie as tie
 
-address-at-requires : tie.Need-address-at-requires
-address-at-requires c κs = search needs
-
-cast-d : tie.Need-cast-d
-cast-d c = search needs
-
 returns : tie.Need-returns
 unfolding sealedBy
 returns c = ap (withSeal (c .before .before .args .c) true) (type-of _ _ _ (c .before .address-at .ensures))
 
 pub seal-spec : {M : Type 1} → statement M
-seal-spec = tie.close (tie.spec address-at-requires cast-d returns)
+seal-spec =
+    tie.close
+    (tie.spec
+    asks
+    (λ c. search needs)
+    returns)

@@ -1,16 +1,17 @@
+use Rattle.mem.proofs.Calls.{asks}
 use mathlib.Core.Path.{ap}
 use mathlib.Core.Bool.{false}
 use Rattle.cap.specs.Narrow.{withPerms, withSeal, unsealedBy}
-use borrow.Author.Needs.{needs}
 use Rattle.cap.proofs.narrow.unseal.Statement.{statement}
 use Rattle.cap.proofs.narrow.unseal.Tie as tie
-
-and-global-requires : tie.Need-and-global-requires
-and-global-requires c κs = search needs
 
 returns : tie.Need-returns
 unfolding unsealedBy
 returns c = ap (withPerms (withSeal (c .before .args .c) false 0)) (c .and-global .ensures)
 
 pub unseal-spec : {M : Type 1} → statement M
-unseal-spec = tie.close (tie.spec and-global-requires returns)
+unseal-spec =
+    tie.close
+    (tie.spec
+    asks
+    returns)
