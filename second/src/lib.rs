@@ -23,6 +23,7 @@ pub mod random;
 pub mod reach;
 pub mod refusal;
 pub mod run;
+pub mod words;
 
 pub use bench::bench_line;
 pub use book::{read_book, write_book};
