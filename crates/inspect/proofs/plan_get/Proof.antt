@@ -1,0 +1,20 @@
+use Rattle.mem.proofs.Calls.{asks}
+use mathlib.Core.Path.{_∙_}
+use Rattle.checks.proofs.Chains.{start}
+use Rattle.inspect.specs.Inspect.{get}
+use Rattle.inspect.proofs.plan_get.Statement.{statement}
+use Rattle.inspect.proofs.plan_get.Tie as tie
+
+returns : tie.Need-returns
+unfolding get
+returns c = rw (← c .before .field-of .ensures)
+    (c .does .ensures
+    ∙ c .before .before .opened .ensures _
+    ∙ start _)
+
+pub plan-get-spec : {M : Type 1} → statement M
+plan-get-spec =
+    tie.close
+    (tie.spec
+    asks asks asks
+    returns)

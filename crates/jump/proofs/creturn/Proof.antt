@@ -1,0 +1,12 @@
+use Rattle.checks.specs.Checks.{settle}
+use mathlib.Core.Path.{refl}
+use Rattle.jump.specs.Jump.{cReturn}
+use Rattle.jump.proofs.creturn.Statement.{statement}
+use Rattle.jump.proofs.creturn.Tie as tie
+
+returns : tie.Need-returns
+unfolding cReturn settle
+returns c = refl
+
+pub creturn-spec : {M : Type 1} → statement M
+creturn-spec = tie.close (tie.spec returns)
