@@ -1,6 +1,7 @@
 -- Loads and stores through a capability (004, chapter 4; 01, "Access and fetch"): each a page, one check a line.
 -- rd and cd are registers' numbers, cb and cs registers with what they hold, rs and rt general registers' values.
 use Prim.Native.Nat.{ℕ}
+use mathlib.Core.Path.{_≡_}
 use mathlib.Core.Bool.{Bool, _||_, not}
 use Rattle.mem.specs.declared.Size.{Size}
 use Rattle.mem.specs.declared.Size.the-variants.{Line}
@@ -10,10 +11,11 @@ use Rattle.cap.specs.declared.Cap.{Cap}
 use Rattle.cap.specs.declared.access.Access.{Access}
 use Rattle.cap.specs.Cap.{permits, GLOBAL, LOAD, STORE, LOAD-CAPABILITY, STORE-CAPABILITY, STORE-LOCAL}
 use Rattle.cap.specs.Access.{accessOf}
+use Rattle.checks.specs.declared.Check.{Check}
 use Rattle.checks.specs.declared.Named.{Named}
 use Rattle.checks.specs.declared.Fault.{Fault}
 use Rattle.checks.specs.declared.Effect.{Effect}
-use Rattle.checks.specs.Checks.{Checked, ok, fail, _>>_, that, opened, tagged, unsealed, granted, lacking, LENGTH}
+use Rattle.checks.specs.Checks.{Checked, ok, fail, finish, _>>_, that, opened, tagged, unsealed, granted, lacking, LENGTH}
 
 -- 01: Length, then alignment, then memory. Where the bytes lie is for memory to say; which stop misalignment gives, for the instruction.
 -- The pages' tests leave out cb.offset; 01 counts it, and so does accessOf.
@@ -64,3 +66,7 @@ cSC immediate pcc cs cb rt = do
   granted STORE-CAPABILITY cb
   that (mayStore (cs .cap) (cb .cap)) (lacking STORE-LOCAL) (cb .number)
   lies (accessOf (cb .cap) rt immediate (bytesIn Line)) (cb .number) Fault.StoreMisaligned (λ a. Effect.StoreCapability a (cs .cap))
+
+-- r is k with the first checks of an access more
+abbrev pub Through : Check → Cap → Named → ℕ → Check → Type 0
+Through k pcc cb permission r = (rest : Checked) → finish r rest ≡ finish k (opened pcc (cb .number) (tagged cb (unsealed cb (granted permission cb rest))))

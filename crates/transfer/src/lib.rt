@@ -12,7 +12,17 @@ ghost use mathlib.Core.Path.{_≡_};
 ghost use mathlib.Core.Bool.{Bool, _||_, not};
 ghost use Rattle.cap.specs.Cap.{permits, GLOBAL, STORE-LOCAL};
 ghost use Rattle.checks.specs.Checks.{settle};
-ghost use Rattle.transfer.specs.Transfer.{mayStore, load, store, cLC, cSC};
+ghost use Rattle.transfer.specs.Transfer.{Through, mayStore, load, store, cLC, cSC};
+
+// What every access through cb asks before its range: open, tagged, unsealed, permitted.
+fn through(k: Check, pcc: Cap, cb: Named, permission: u32) -> Check
+    ensures { λ r. ⌜ Through k pcc cb permission r ⌝ }
+{
+    let k = checks::opened(k, pcc.perms, cb.number);
+    let k = checks::tagged(k, cb);
+    let k = checks::unsealed(k, cb);
+    checks::granted(k, cb, permission)
+}
 
 // A load of data; LD and LBU are loads through C0.
 pub fn plan_load(
@@ -26,10 +36,7 @@ pub fn plan_load(
 ) -> Planned
     ensures { λ r. ⌜ r ≡ settle (load size signed immediate pcc rd cb rt) ⌝ }
 {
-    let k = checks::opened(Check::Passed, pcc.perms, cb.number);
-    let k = checks::tagged(k, cb);
-    let k = checks::unsealed(k, cb);
-    let k = checks::granted(k, cb, cap::LOAD);
+    let k = through(Check::Passed, pcc, cb, cap::LOAD);
     let lies = cap::access::test(cb.cap, rt, immediate, size);
     match lies {
         Access::At(at) => checks::does(k, Effect::Load(size, signed, at, rd)),
@@ -42,10 +49,7 @@ pub fn plan_load(
 pub fn plan_store(size: Size, immediate: u64, pcc: Cap, rs: u64, cb: Named, rt: u64) -> Planned
     ensures { λ r. ⌜ r ≡ settle (store size immediate pcc rs cb rt) ⌝ }
 {
-    let k = checks::opened(Check::Passed, pcc.perms, cb.number);
-    let k = checks::tagged(k, cb);
-    let k = checks::unsealed(k, cb);
-    let k = checks::granted(k, cb, cap::STORE);
+    let k = through(Check::Passed, pcc, cb, cap::STORE);
     let lies = cap::access::test(cb.cap, rt, immediate, size);
     match lies {
         Access::At(at) => checks::does(k, Effect::Store(size, at, rs)),
@@ -58,10 +62,7 @@ pub fn clc(immediate: u64, pcc: Cap, cd: u8, cb: Named, rt: u64) -> Planned
     ensures { λ r. ⌜ r ≡ settle (cLC immediate pcc cd cb rt) ⌝ }
 {
     let k = checks::opened(Check::Passed, pcc.perms, cd);
-    let k = checks::opened(k, pcc.perms, cb.number);
-    let k = checks::tagged(k, cb);
-    let k = checks::unsealed(k, cb);
-    let k = checks::granted(k, cb, cap::LOAD_CAPABILITY);
+    let k = through(k, pcc, cb, cap::LOAD_CAPABILITY);
     let lies = cap::access::test(cb.cap, rt, immediate, Size::Line);
     match lies {
         Access::At(at) => checks::does(k, Effect::LoadCapability(at, cd)),
@@ -83,10 +84,7 @@ pub fn csc(immediate: u64, pcc: Cap, cs: Named, cb: Named, rt: u64) -> Planned
     ensures { λ r. ⌜ r ≡ settle (cSC immediate pcc cs cb rt) ⌝ }
 {
     let k = checks::opened(Check::Passed, pcc.perms, cs.number);
-    let k = checks::opened(k, pcc.perms, cb.number);
-    let k = checks::tagged(k, cb);
-    let k = checks::unsealed(k, cb);
-    let k = checks::granted(k, cb, cap::STORE_CAPABILITY);
+    let k = through(k, pcc, cb, cap::STORE_CAPABILITY);
     let cause = checks::lacking_cause(cap::STORE_LOCAL);
     let k = checks::that(k, may_store(cs.cap, cb.cap), cause, cb.number);
     let lies = cap::access::test(cb.cap, rt, immediate, Size::Line);

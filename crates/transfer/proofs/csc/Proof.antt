@@ -8,45 +8,36 @@ use Rattle.transfer.proofs.csc.Tie as tie
 
 returns : tie.Need-returns
 unfolding cSC
-returns c = rw (← sym (c .before .before .lies .given .1) ∙ c .before .before .before .before .before .test .ensures, ← c .before .before .before .before .before .before .before .may-store .ensures, ← c .before .before .before .before .before .before .before .before .lacking-cause .ensures)
+returns c = rw (← c .before .before .before .before .before .before .before .before .lacking-cause .ensures, ← c .before .before .before .before .before .before .before .may-store .ensures, ← sym (c .before .before .lies .given .1) ∙ c .before .before .before .before .before .test .ensures)
     (c .does .ensures
     ∙ c .before .before .before .before .before .before .that .ensures _
-    ∙ c .before .before .before .before .before .before .before .before .before .granted .ensures _
-    ∙ c .before .before .before .before .before .before .before .before .before .before .unsealed .ensures _
-    ∙ c .before .before .before .before .before .before .before .before .before .before .before .tagged .ensures _
-    ∙ c .before .before .before .before .before .before .before .before .before .before .before .before .opened2 .ensures _
-    ∙ c .before .before .before .before .before .before .before .before .before .before .before .before .before .opened .ensures _
+    ∙ c .before .before .before .before .before .before .before .before .before .through .ensures _
+    ∙ c .before .before .before .before .before .before .before .before .before .before .opened .ensures _
     ∙ start _)
 
 returns-2 : tie.Need-returns-2
 unfolding cSC
-returns-2 c = rw (← sym (c .before .enum-told .given .1) ∙ c .before .before .before .before .test .ensures, ← c .before .before .before .before .before .before .may-store .ensures, ← c .before .before .before .before .before .before .before .lacking-cause .ensures)
+returns-2 c = rw (← c .before .before .before .before .before .before .before .lacking-cause .ensures, ← c .before .before .before .before .before .before .may-store .ensures, ← sym (c .before .enum-told .given .1) ∙ c .before .before .before .before .test .ensures)
     (c .fails .ensures
     ∙ c .before .before .before .before .before .that .ensures _
-    ∙ c .before .before .before .before .before .before .before .before .granted .ensures _
-    ∙ c .before .before .before .before .before .before .before .before .before .unsealed .ensures _
-    ∙ c .before .before .before .before .before .before .before .before .before .before .tagged .ensures _
-    ∙ c .before .before .before .before .before .before .before .before .before .before .before .opened2 .ensures _
-    ∙ c .before .before .before .before .before .before .before .before .before .before .before .before .opened .ensures _
+    ∙ c .before .before .before .before .before .before .before .before .through .ensures _
+    ∙ c .before .before .before .before .before .before .before .before .before .opened .ensures _
     ∙ start _)
 
 returns-3 : tie.Need-returns-3
 unfolding cSC
-returns-3 c = rw (← sym (c .before .enum-told2 .given .1) ∙ c .before .before .before .before .test .ensures, ← c .before .before .before .before .before .before .may-store .ensures, ← c .before .before .before .before .before .before .before .lacking-cause .ensures)
+returns-3 c = rw (← c .before .before .before .before .before .before .before .lacking-cause .ensures, ← c .before .before .before .before .before .before .may-store .ensures, ← sym (c .before .enum-told2 .given .1) ∙ c .before .before .before .before .test .ensures)
     (c .fails2 .ensures
     ∙ c .before .before .before .before .before .that .ensures _
-    ∙ c .before .before .before .before .before .before .before .before .granted .ensures _
-    ∙ c .before .before .before .before .before .before .before .before .before .unsealed .ensures _
-    ∙ c .before .before .before .before .before .before .before .before .before .before .tagged .ensures _
-    ∙ c .before .before .before .before .before .before .before .before .before .before .before .opened2 .ensures _
-    ∙ c .before .before .before .before .before .before .before .before .before .before .before .before .opened .ensures _
+    ∙ c .before .before .before .before .before .before .before .before .through .ensures _
+    ∙ c .before .before .before .before .before .before .before .before .before .opened .ensures _
     ∙ start _)
 
 pub csc-spec : {M : Type 1} → statement M
 csc-spec =
     tie.close
     (tie.spec
-    asks asks asks asks asks asks asks asks asks
+    asks asks asks asks asks asks
     (λ c. search needs)
     asks
     (λ c. search needs)
