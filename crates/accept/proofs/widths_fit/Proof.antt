@@ -1,0 +1,59 @@
+use Prim.Native.Nat.{ℕ, _-_, _≤_}
+use mathlib.Core.Path.{_≡_, sym, _∙_, ap}
+use mathlib.Core.Bool.{Bool, not}
+use mathlib.Core.List.{List}
+use native.Mathlib.Omega.{arith}
+use borrow.Author.Needs.{needs}
+use denote.Ref.{now}
+use lib.Dec.{ltb}
+use lib.ListN.{length, getD}
+use Rattle.mem.proofs.Calls.{asks}
+use Rattle.cap.specs.declared.Cap.{Cap}
+use Rattle.cap.specs.Narrow.{null}
+use Rattle.accept.specs.Accept.{every, widthFits}
+use Rattle.accept.proofs.Scans.{begins, fails, passes, ends}
+use Rattle.accept.proofs.widths_fit.Statement.{statement}
+use Rattle.accept.proofs.widths_fit.Tie as tie
+
+abbrev test : List Cap → ℕ → Bool
+test caps = λ i. widthFits (getD caps i null)
+
+abbrev Inv-loop : tie.InvT-loop
+Inv-loop caps i₀ i = (i ≤ 32) × (every (32 - i) i (test caps) ≡ every (32) 0 (test caps))
+
+abbrev μ-loop : tie.MeasureT-loop
+μ-loop caps i₀ i = 32 - i
+
+returns : tie.Need-returns Inv-loop μ-loop
+returns c =
+    let l = c .before .before .before .before .loop in
+    let a = c .before .before .before .before .before .args in
+    fails (32) (l .i) (test (a .t1)) (c .before .before .before .loop-test .taken) (sym (c .before .in-widths .ensures) ∙ c .if1 .left) ∙ l .inv .1
+
+again : tie.Need-loop-again Inv-loop μ-loop
+again c =
+    let l = c .before .before .before .before .loop in
+    let a = c .before .before .before .before .before .args in
+    (omega arith, passes (32) (l .i) (test (a .t1)) (c .before .before .before .loop-test .taken) (sym (c .before .in-widths .ensures) ∙ c .if1 .taken) ∙ l .inv .1)
+
+returns-2 : tie.Need-returns-2 Inv-loop μ-loop
+returns-2 c =
+    let l = c .before .loop in
+    let a = c .before .before .args in
+    ends (32) (l .i) (test (a .t1)) (c .loop-test .left) ∙ l .inv .1
+
+pub widths-fit-spec : {M : Type 1} → statement M
+widths-fit-spec =
+    tie.close
+    (tie.spec
+    Inv-loop
+    μ-loop
+    (λ c. (omega arith, begins _ _))
+    (λ c. search needs)
+    (λ c. search needs)
+    asks
+    (λ c. search needs)
+    (λ c. search needs)
+    again
+    returns
+    returns-2)
