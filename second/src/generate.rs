@@ -74,6 +74,15 @@ struct Decks {
 
 /// `count` cases, the same for the same seed.
 pub fn cases(seed: u64, count: usize) -> Vec<Case> {
+    stream(seed).take(count).collect()
+}
+
+/// The first `count` runs among the cases of a seed.
+pub fn run_cases(seed: u64, count: usize) -> Vec<Case> {
+    stream(seed).filter(|case| matches!(case, Case::Run(_))).take(count).collect()
+}
+
+fn stream(seed: u64) -> impl Iterator<Item = Case> {
     let mut random = Random::new(seed);
     let mut decks = Decks {
         targets: Deck::new(wanted::targets()),
@@ -83,7 +92,7 @@ pub fn cases(seed: u64, count: usize) -> Vec<Case> {
         books: Deck::new(books::pairs()),
         writes: Deck::new(writes::pairs()),
     };
-    (0..count).map(|_| one_case(&mut random, &mut decks)).collect()
+    std::iter::repeat_with(move || one_case(&mut random, &mut decks))
 }
 
 fn one_case(random: &mut Random, decks: &mut Decks) -> Case {

@@ -6,7 +6,9 @@ mod edges;
 mod table;
 
 use second::asm::encode::{format_of, Format, Kind, FORMATS};
-use second::generate::{answer, answer_line, cases, decode, encode, Answer, Case, RunCase};
+use second::generate::{
+    answer, answer_line, cases, decode, encode, run_cases, Answer, Case, RunCase,
+};
 use second::random::Random;
 use second::{run, step, Cap, Machine, Outcome, RAM_BASE};
 use std::collections::{BTreeMap, BTreeSet};
@@ -339,4 +341,11 @@ fn equal_seeds_give_equal_cases() {
     assert!(cases(8, 100) != long[..100]);
     // The published first number of splitmix64 from 0.
     assert_eq!(Random::new(0).next(), 0xE220_A839_7B1D_CDAF);
+}
+
+#[test]
+fn run_cases_are_the_runs_among_the_cases() {
+    let mut among = cases(7, 300);
+    among.retain(|case| matches!(case, Case::Run(_)));
+    assert!(run_cases(7, among.len()) == among);
 }

@@ -113,8 +113,7 @@ fn put_machine(body: &mut Vec<u8>, machine: &Machine) {
 }
 
 fn put_memory(body: &mut Vec<u8>, memory: &[u8]) {
-    // The last byte is as good a guess of the commonest as any.
-    let fill = memory.last().copied().unwrap_or(0);
+    let fill = commonest(memory);
     let mut pieces = Vec::new();
     for (index, piece) in memory.chunks(PIECE).enumerate() {
         if piece.iter().any(|byte| *byte != fill) {
@@ -129,6 +128,15 @@ fn put_memory(body: &mut Vec<u8>, memory: &[u8]) {
         body.extend_from_slice(&(piece.len() as u16).to_be_bytes());
         body.extend_from_slice(piece);
     }
+}
+
+/// The byte that fills the most of a memory, so that few pieces are left.
+fn commonest(memory: &[u8]) -> u8 {
+    let mut counts = [0; 256];
+    for byte in memory {
+        counts[usize::from(*byte)] += 1;
+    }
+    (0..=255).max_by_key(|byte| counts[usize::from(*byte)]).unwrap_or(0)
 }
 
 /// The cases of a file, or what is wrong with it.
