@@ -8,9 +8,9 @@ use Rattle.mem.specs.declared.Address.{Address}
 use Rattle.mem.specs.Place.{RAM-BASE, memoryFits, tagsFit}
 use Rattle.mem.specs.Store.{tagOf}
 use Rattle.cap.specs.declared.Cap.{Cap}
-use Rattle.cap.specs.declared.line.LoadedCap.{LoadedCap}
+use Rattle.line.specs.declared.LoadedCap.{LoadedCap}
 use Rattle.cap.specs.Cap.{inWidths}
-use Rattle.cap.specs.Line.{loadCap}
+use Rattle.line.specs.Line.{loadCap}
 use Rattle.cap.specs.Narrow.{null}
 use Rattle.perform.specs.declared.Pending.{Pending}
 use Rattle.accept.specs.declared.Refusal.{Refusal}

@@ -1,6 +1,6 @@
 // Whether a start is accepted: the refusals 20, 21, 22 and 24, in this order (01, "Stop numbers").
 use cap::Cap;
-use cap::line::LoadedCap;
+use line::LoadedCap;
 use mem::Address;
 use mem::LINE;
 use mem::RAM_BASE;
@@ -78,7 +78,7 @@ fn line_fits(ram: &[u8], tags: &[u8], line: usize) -> bool
 {
     if mem::tag_of(tags, line) {
         let at = Address(RAM_BASE + (line % 0x100_0000) as u64 * 32);
-        loaded_fits(cap::line::load(&ram[..0], ram, tags, at))
+        loaded_fits(line::load(&ram[..0], ram, tags, at))
     } else {
         true
     }

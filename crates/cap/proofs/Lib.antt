@@ -1,4 +1,2 @@
-pub mod Lines
 pub mod Narrows
 pub mod Perms
-pub mod Sums

@@ -4,22 +4,20 @@ use mem::Offset;
 ghost use mathlib.Core.Path.{_≡_};
 ghost use Prim.Native.Nat.{ℕ, _+_, _^_};
 ghost use lib.Dec.{ltb};
-ghost use Rattle.cap.specs.Claims.{CapIsKept, BitsAreKept, TopIsEmpty};
+ghost use Rattle.cap.specs.Claims.{TopIsEmpty};
 ghost use Rattle.cap.specs.Cap.{permissionTable, permitted, inWidths, accessBit, registerOpen};
 
-pub mod access;
-pub mod line;
 pub mod narrow;
 
 pub struct Cap {
-    pub tag: bool,
-    pub sealed: bool,
-    pub perms: u32,
-    pub otype: u32,
-    pub spare: u8,
     pub base: Address,
     pub length: u64,
     pub offset: Offset,
+    pub perms: u32,
+    pub otype: u32,
+    pub spare: u8,
+    pub tag: bool,
+    pub sealed: bool,
 }
 
 pub const GLOBAL: u32 = 0;
@@ -135,9 +133,7 @@ pub fn register_open(perms: u32, register: u8) -> bool
     }
 }
 
-// What the definitions promise of a capability's bytes and of the top of memory.
+// What the definitions promise of the top of memory.
 pub fn claims()
-    ensures cap_is_kept { λ _. ⌜ CapIsKept ⌝ }
-    ensures bits_are_kept { λ _. ⌜ BitsAreKept ⌝ }
     ensures top_is_empty { λ _. ⌜ TopIsEmpty ⌝ }
 {}

@@ -4,11 +4,11 @@
 use cap::Cap;
 use libc::STDIN_FILENO;
 use libc::STDOUT_FILENO;
-use machine::Machine;
-use machine::Outcome;
 use mem::Address;
 use mem::Offset;
 use perform::Pending;
+use state::Machine;
+use state::Outcome;
 ghost use mathlib.Core.Path.{_≡_};
 ghost use Prim.Native.Nat.{_≤_};
 ghost use lib.ListN.{length};

@@ -5,11 +5,15 @@ use mathlib.Core.Bool.{Bool, true, false}
 use native.Mathlib.Omega.{arith}
 use borrow.Author.Tests.{lt-ltb, le-ltb, le-leb, lt-leb, leb-true, leb-false}
 use lib.Dec.{leb, eqb}
-use Rattle.mem.specs.Number.{plusMod, addressAt}
+use Rattle.mem.specs.Number.{plusMod, addressAt, movedBy}
 use Rattle.mem.specs.declared.Address.{Address}
 use Rattle.mem.specs.declared.Offset.{Offset}
-use Rattle.cap.specs.Access.{aligned}
-use Rattle.jump.specs.Jump.{notPast}
+use Rattle.access.specs.Access.{aligned}
+use Rattle.jump.specs.Jump.{bytesOff, branchOffset, notPast}
+
+-- from the slot, and then by the count
+pub from-slot : (pc a r : Offset) (words b : ℕ) → a ≡ movedBy pc 4 → b ≡ bytesOff words → r ≡ movedBy a b → r ≡ branchOffset pc words
+from-slot pc a r words b ea eb er = er ∙ ap (λ (o : Offset). movedBy o b) ea ∙ ap (λ n. movedBy (movedBy pc 4) n) eb
 
 -- a branch forward, by its test; past the length; and a branch back
 pub forward : (pc bytes length : ℕ) (r : Bool) → bytes < 2 ^ 63 → bytes ≤ length → r ≡ leb (pc + 4) (length - bytes) → r ≡ notPast pc bytes length

@@ -4,10 +4,12 @@ use Prim.Native.Nat.{ℕ, _+_, _-_, _*_, _%_, _^_}
 use mathlib.Core.Path.{_≡_}
 use mathlib.Core.Bool.{Bool, cond, not}
 use lib.Dec.{eqb, leb, ltb}
+use Rattle.mem.specs.declared.Offset.{Offset}
+use Rattle.mem.specs.Number.{movedBy}
 use Rattle.cap.specs.declared.Cap.{Cap}
 use Rattle.cap.specs.Cap.{GLOBAL, EXECUTE}
-use Rattle.cap.specs.Access.{aligned}
-use Rattle.cap.specs.Narrow.{incOffset}
+use Rattle.access.specs.Access.{aligned}
+use Rattle.cap.specs.Narrow.{incOffset, setOffset}
 use Rattle.checks.specs.declared.Named.{Named}
 use Rattle.checks.specs.declared.Fault.{Fault}
 use Rattle.checks.specs.declared.Effect.{Effect}
@@ -21,9 +23,13 @@ wanted want test = cond want test (not test)
 abbrev pub bytesOff : ℕ → ℕ
 bytesOff words = words % 2 ^ 62 * 4
 
--- PC + 4 * sign_extend(offset) + 4 mod 2^64, every other field of PCC kept (ruling A11)
+-- PC + 4 * sign_extend(offset) + 4 mod 2^64
+abbrev pub branchOffset : Offset → ℕ → Offset
+branchOffset pc words = movedBy (movedBy pc 4) (bytesOff words)
+
+-- PCC with the target as its offset, every other field kept (ruling A11)
 unfoldable pub branchTo : Cap → ℕ → Cap
-branchTo pcc words = incOffset (incOffset pcc 4) (bytesOff words)
+branchTo pcc words = setOffset pcc (branchOffset (pcc .offset) words)
 
 -- PC + 4 * sign_extend(offset) + 4 <= length, exactly: a negative part counts on the other side (rulings A4, A5)
 unfoldable pub notPast : ℕ → ℕ → ℕ → Bool

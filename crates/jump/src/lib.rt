@@ -8,16 +8,17 @@ use checks::LENGTH;
 use checks::NO_REGISTER;
 use checks::Named;
 use checks::Planned;
+use mem::Offset;
 use mem::Size;
 ghost use mathlib.Core.Path.{_≡_};
 ghost use mathlib.Core.Bool.{Bool, cond, not};
 ghost use Prim.Native.Nat.{ℕ, _+_, _-_, _^_, _≤_, _<_};
 ghost use lib.Dec.{leb};
 ghost use Rattle.checks.specs.Checks.{settle};
-ghost use Rattle.jump.specs.Jump.{wanted, bytesOff, branchTo, notPast, branch, branchTag, cJR, cJALR, cCall, cReturn};
+ghost use Rattle.jump.specs.Jump.{wanted, bytesOff, branchOffset, branchTo, notPast, branch, branchTag, cJR, cJALR, cCall, cReturn};
 
 // Whether the branch is taken: its test came out as it wants.
-fn is_wanted(want: bool, test: bool) -> bool
+pub fn is_wanted(want: bool, test: bool) -> bool
     ensures { λ r. ⌜ r ≡ wanted want test ⌝ }
 {
     if want { test } else { !test }
@@ -30,11 +31,19 @@ fn bytes_off(words: u64) -> u64
     words % 0x4000_0000_0000_0000 * 4
 }
 
-// PCC with the target as its offset: so many words from the slot.
+// The target of a branch: so many words from the slot.
+pub fn branch_offset(pc: Offset, words: u64) -> Offset
+    ensures { λ r. ⌜ r ≡ branchOffset pc words ⌝ }
+{
+    mem::moved(mem::moved(pc, 4), bytes_off(words))
+}
+
+// PCC with the target as its offset.
 fn branch_target(pcc: Cap, words: u64) -> Cap
     ensures { λ r. ⌜ r ≡ branchTo pcc words ⌝ }
 {
-    narrow::inc_offset(narrow::inc_offset(pcc, 4), bytes_off(words))
+    let pc = pcc.offset;
+    narrow::set_offset(pcc, branch_offset(pc, words))
 }
 
 // a + b <= limit, exactly.
@@ -110,11 +119,7 @@ fn jumpable(k: Check, cb: Named) -> Check
         cb.number,
     );
     let at = mem::address_at(cb.cap.base, cb.cap.offset);
-    checks::guarded(
-        k,
-        cap::access::is_aligned(at, Size::Four),
-        Fault::Misaligned,
-    )
+    checks::guarded(k, access::is_aligned(at, Size::Four), Fault::Misaligned)
 }
 
 pub fn cjr(pcc: Cap, cb: Named) -> Planned

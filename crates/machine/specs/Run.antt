@@ -1,48 +1,17 @@
--- A run: the start is judged, then as many steps as the budget has, or up to the one that stops.
-use Prim.Native.Nat.{ℕ, zero, suc, _+_}
+-- A run: the start is judged first, then come its steps (01, "Stop numbers" and "Refusals").
+use Prim.Native.Nat.{ℕ}
 use mathlib.Core.List.{List}
 use lib.ListN.{length, getD}
-use Rattle.perform.specs.declared.Turn.{Turn}
-use Rattle.perform.specs.declared.Turn.the-variants.{Next, Stops}
-use Rattle.perform.specs.declared.Fetched.{Fetched}
-use Rattle.perform.specs.Fetch.{fetchOf, wordOf, isPending, actTurn, actRam, actTags}
 use Rattle.accept.specs.declared.Verdict.{Verdict}
 use Rattle.accept.specs.Accept.{verdictOf, refusalNumber}
-use Rattle.machine.specs.declared.Machine.{Machine}
-use Rattle.machine.specs.declared.Outcome.{Outcome}
-use Rattle.machine.specs.Machine.{operandsOf, commit, stoppedAt, refusedWith}
-
--- what the step of a machine writes, and what it leaves in RAM and tags
-abbrev pub fetchedBy : List ℕ → Machine → List ℕ → Fetched
-fetchedBy flash m ram = fetchOf flash ram (m .pcc)
-
-unfoldable pub turnAt : List ℕ → Machine → List ℕ → List ℕ → Turn
-turnAt flash m ram tags = actTurn (operandsOf m (wordOf (fetchedBy flash m ram))) (isPending (m .pending)) (fetchedBy flash m ram) flash ram tags
-
-unfoldable pub ramAt : List ℕ → Machine → List ℕ → List ℕ
-ramAt flash m ram = actRam (operandsOf m (wordOf (fetchedBy flash m ram))) (isPending (m .pending)) (fetchedBy flash m ram) flash ram
-
-unfoldable pub tagsAt : List ℕ → Machine → List ℕ → List ℕ → List ℕ
-tagsAt flash m ram tags = actTags (operandsOf m (wordOf (fetchedBy flash m ram))) (isPending (m .pending)) (fetchedBy flash m ram) flash ram tags
-
-pub record Result : Type 0 where
-  pub outcome : Outcome
-  pub ram : List ℕ
-  pub tags : List ℕ
-
--- so many steps are left, and n are made; a stop leaves RAM and tags as they were before its step
-unfoldable pub runFrom : ℕ → ℕ → List ℕ → Machine → List ℕ → List ℕ → Result
-runFrom zero n flash m ram tags = record { outcome = refusedWith 0 n m; ram = ram; tags = tags }
-runFrom (suc k) n flash m ram tags =
-    elim (turnAt flash m ram tags) [
-      | Next d ↦ runFrom k (n + 1) flash (commit m d) (ramAt flash m ram) (tagsAt flash m ram tags)
-      | Stops fault ↦ record { outcome = stoppedAt fault n m; ram = ram; tags = tags }
-    ]
+use Rattle.state.specs.declared.Machine.{Machine}
+use Rattle.state.specs.State.{endedWith}
+use Rattle.state.specs.Steps.{Result, runFrom}
 
 -- a refusal gives back everything as it came
 abbrev pub judged : ℕ → List ℕ → Machine → List ℕ → List ℕ → Verdict → Result
 judged budget flash m ram tags Verdict.Accepted = runFrom budget 0 flash m ram tags
-judged budget flash m ram tags (Verdict.Refused refusal) = record { outcome = refusedWith (refusalNumber refusal) 0 m; ram = ram; tags = tags }
+judged budget flash m ram tags (Verdict.Refused refusal) = record { outcome = endedWith (refusalNumber refusal) 0 m; ram = ram; tags = tags }
 
 unfoldable pub runOf : ℕ → List ℕ → Machine → List ℕ → List ℕ → Result
 runOf budget flash m ram tags =

@@ -5,9 +5,9 @@ use mathlib.Core.List.{List}
 use Rattle.mem.specs.declared.Loaded.{Loaded}
 use Rattle.mem.specs.Place.{loadOf}
 use Rattle.cap.specs.declared.Cap.{Cap}
-use Rattle.cap.specs.declared.access.Access.{Access}
+use Rattle.access.specs.declared.Access.{Access}
 use Rattle.cap.specs.Cap.{permits, EXECUTE}
-use Rattle.cap.specs.Access.{accessOf}
+use Rattle.access.specs.Access.{accessOf}
 use Rattle.isa.specs.Decode.{decodeWord, isJumpWord}
 use Rattle.checks.specs.declared.Fault.{Fault}
 use Rattle.checks.specs.declared.Planned.{Planned}

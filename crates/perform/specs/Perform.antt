@@ -12,8 +12,8 @@ use Rattle.mem.specs.Number.{bytesIn, toBe, signExtend}
 use Rattle.mem.specs.Place.{placeOf, loadOf}
 use Rattle.mem.specs.Store.{answerAt, ramAfter, tagsAfter}
 use Rattle.cap.specs.declared.Cap.{Cap}
-use Rattle.cap.specs.declared.line.LoadedCap.{LoadedCap}
-use Rattle.cap.specs.Line.{encode, loadCap}
+use Rattle.line.specs.declared.LoadedCap.{LoadedCap}
+use Rattle.line.specs.Line.{encode, loadCap}
 use Rattle.checks.specs.declared.Fault.{Fault}
 use Rattle.checks.specs.declared.Effect.{Effect}
 use Rattle.perform.specs.declared.Pending.{Pending}

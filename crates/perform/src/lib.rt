@@ -1,7 +1,6 @@
 // The only part that touches memory: a word fetched through PCC, and an instruction carried out.
+use access::Access;
 use cap::Cap;
-use cap::access::Access;
-use cap::line::LoadedCap;
 use checks::Effect;
 use checks::Fault;
 use checks::LENGTH;
@@ -9,6 +8,7 @@ use checks::NO_REGISTER;
 use checks::Planned;
 use checks::SEAL;
 use checks::TAG;
+use line::LoadedCap;
 use mem::Address;
 use mem::Loaded;
 use mem::Size;
@@ -139,10 +139,10 @@ fn carry_out(
             )
         }
         Effect::LoadCapability(at, cd) => {
-            after_load_capability(cause, cd, cap::line::load(flash, ram, tags, at))
+            after_load_capability(cause, cd, line::load(flash, ram, tags, at))
         }
         Effect::StoreCapability(at, c) => {
-            after_store(c0, cause, cap::line::store(flash.len(), ram, tags, at, c))
+            after_store(c0, cause, line::store(flash.len(), ram, tags, at, c))
         }
     }
 }
@@ -169,7 +169,7 @@ pub fn fetch<'a>(flash: &'a [u8], ram: &'a [u8], pcc: Cap) -> Fetched
     if !cap::permits(pcc.perms, cap::EXECUTE) {
         return Fetched::Stops(Fault::Raise(0x11, NO_REGISTER));
     }
-    let lies = cap::access::test(pcc, 0, 0, Size::Four);
+    let lies = access::test(pcc, 0, 0, Size::Four);
     match lies {
         Access::At(a) => word_in(mem::load(flash, ram, a, Size::Four)),
         Access::Length => Fetched::Stops(Fault::Raise(LENGTH, NO_REGISTER)),

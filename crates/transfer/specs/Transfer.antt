@@ -8,9 +8,9 @@ use Rattle.mem.specs.declared.Size.the-variants.{Line}
 use Rattle.mem.specs.declared.Address.{Address}
 use Rattle.mem.specs.Number.{bytesIn}
 use Rattle.cap.specs.declared.Cap.{Cap}
-use Rattle.cap.specs.declared.access.Access.{Access}
+use Rattle.access.specs.declared.Access.{Access}
 use Rattle.cap.specs.Cap.{permits, GLOBAL, LOAD, STORE, LOAD-CAPABILITY, STORE-CAPABILITY, STORE-LOCAL}
-use Rattle.cap.specs.Access.{accessOf}
+use Rattle.access.specs.Access.{accessOf}
 use Rattle.checks.specs.declared.Check.{Check}
 use Rattle.checks.specs.declared.Named.{Named}
 use Rattle.checks.specs.declared.Fault.{Fault}

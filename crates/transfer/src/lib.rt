@@ -1,6 +1,6 @@
 // Loads and stores through a capability (004, chapter 4; 01, "Access and fetch").
+use access::Access;
 use cap::Cap;
-use cap::access::Access;
 use checks::Check;
 use checks::Effect;
 use checks::Fault;
@@ -15,7 +15,7 @@ ghost use Rattle.checks.specs.Checks.{settle};
 ghost use Rattle.transfer.specs.Transfer.{Through, mayStore, load, store, cLC, cSC};
 
 // What every access through cb asks before its range: open, tagged, unsealed, permitted.
-fn through(k: Check, pcc: Cap, cb: Named, permission: u32) -> Check
+pub fn through(k: Check, pcc: Cap, cb: Named, permission: u32) -> Check
     ensures { λ r. ⌜ Through k pcc cb permission r ⌝ }
 {
     let k = checks::opened(k, pcc.perms, cb.number);
@@ -37,7 +37,7 @@ pub fn plan_load(
     ensures { λ r. ⌜ r ≡ settle (load size signed immediate pcc rd cb rt) ⌝ }
 {
     let k = through(Check::Passed, pcc, cb, cap::LOAD);
-    let lies = cap::access::test(cb.cap, rt, immediate, size);
+    let lies = access::test(cb.cap, rt, immediate, size);
     match lies {
         Access::At(at) => checks::does(k, Effect::Load(size, signed, at, rd)),
         Access::Length => checks::fails(k, Fault::Raise(LENGTH, cb.number)),
@@ -50,7 +50,7 @@ pub fn plan_store(size: Size, immediate: u64, pcc: Cap, rs: u64, cb: Named, rt: 
     ensures { λ r. ⌜ r ≡ settle (store size immediate pcc rs cb rt) ⌝ }
 {
     let k = through(Check::Passed, pcc, cb, cap::STORE);
-    let lies = cap::access::test(cb.cap, rt, immediate, size);
+    let lies = access::test(cb.cap, rt, immediate, size);
     match lies {
         Access::At(at) => checks::does(k, Effect::Store(size, at, rs)),
         Access::Length => checks::fails(k, Fault::Raise(LENGTH, cb.number)),
@@ -63,7 +63,7 @@ pub fn clc(immediate: u64, pcc: Cap, cd: u8, cb: Named, rt: u64) -> Planned
 {
     let k = checks::opened(Check::Passed, pcc.perms, cd);
     let k = through(k, pcc, cb, cap::LOAD_CAPABILITY);
-    let lies = cap::access::test(cb.cap, rt, immediate, Size::Line);
+    let lies = access::test(cb.cap, rt, immediate, Size::Line);
     match lies {
         Access::At(at) => checks::does(k, Effect::LoadCapability(at, cd)),
         Access::Length => checks::fails(k, Fault::Raise(LENGTH, cb.number)),
@@ -87,7 +87,7 @@ pub fn csc(immediate: u64, pcc: Cap, cs: Named, cb: Named, rt: u64) -> Planned
     let k = through(k, pcc, cb, cap::STORE_CAPABILITY);
     let cause = checks::lacking_cause(cap::STORE_LOCAL);
     let k = checks::that(k, may_store(cs.cap, cb.cap), cause, cb.number);
-    let lies = cap::access::test(cb.cap, rt, immediate, Size::Line);
+    let lies = access::test(cb.cap, rt, immediate, Size::Line);
     let c = cs.cap;
     match lies {
         Access::At(at) => checks::does(k, Effect::StoreCapability(at, c)),

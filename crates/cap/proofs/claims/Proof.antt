@@ -1,10 +1,9 @@
-use Rattle.cap.proofs.Lines.{cap-is-kept, bits-are-kept}
 use Rattle.cap.proofs.Narrows.{top-is-empty}
 use Rattle.cap.proofs.claims.Statement.{statement}
 use Rattle.cap.proofs.claims.Tie as tie
 
 returns : tie.Need-returns
-returns c = (cap-is-kept, (bits-are-kept, top-is-empty))
+returns c = top-is-empty
 
 pub claims-spec : {M : Type 1} → statement M
 claims-spec = tie.close (tie.spec returns)

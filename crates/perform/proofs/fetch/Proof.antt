@@ -1,5 +1,5 @@
 use Rattle.mem.proofs.Calls.{asks}
-use Rattle.cap.specs.Access.{accessOf}
+use Rattle.access.specs.Access.{accessOf}
 use mathlib.Core.Path.{sym, _∙_}
 use borrow.Author.Tests.{not-true, not-false}
 use Rattle.perform.specs.Fetch.{fetchOf}

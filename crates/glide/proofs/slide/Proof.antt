@@ -1,0 +1,117 @@
+use Prim.Native.Nat.{_-_, _≤_}
+use mathlib.Core.Path.{_≡_, refl}
+use native.Mathlib.Omega.{arith}
+use borrow.Author.Needs.{needs}
+use lib.ListN.{length}
+use denote.Ref.{now}
+use Rattle.mem.proofs.Calls.{asks}
+use Rattle.cap.specs.Narrow.{setOffset}
+use Rattle.perform.specs.declared.Pending.{Pending}
+use Rattle.glide.specs.Glide.{waitingAt, Glides}
+use Rattle.glide.proofs.Glides.{Tells, told, sets, jumps, rests, starts, slot-is, next-is, branch-is}
+use Rattle.glide.proofs.slide.Statement.{statement}
+use Rattle.glide.proofs.slide.Tie as tie
+
+abbrev Inv-loop : tie.InvT-loop
+Inv-loop g₀ pcc c0 flash ram₀ tags₀ budget n₀ at₀ slot₀ target₀ g ram tags n at slot target =
+    (length ram ≡ length ram₀) × (length tags ≡ length tags₀) × (n ≤ budget)
+    × Glides c0 flash g₀ pcc Pending.Quiet ram₀ tags₀ n g (setOffset pcc at) (waitingAt slot pcc target) ram tags
+
+abbrev μ-loop : tie.MeasureT-loop
+μ-loop g₀ pcc c0 flash ram₀ tags₀ budget n₀ at₀ slot₀ target₀ g ram tags n at slot target = budget - n
+
+-- what the call of `plainly` answers of this step
+answer : (p : tie.After-plainly Inv-loop μ-loop)
+    → let l = p .before .before .before .before .before .before .before .before .before .before .before .before .before .before .loop in
+    let a = p .before .before .before .before .before .before .before .before .before .before .before .before .before .before .before .before .before .before .before .args in
+    Tells (a .c0) (a .flash .now) (l .g) (setOffset (a .pcc) (l .at)) (waitingAt (l .slot) (a .pcc) (l .target)) (l .ram) (l .tags) (p .plainly .last .1 .1 .1 .1 .1 .1 .1 .1 .0) (p .plainly .last .1 .1 .1 .1 .1 .1 .1 .1 .1 .0) (p .plainly .result)
+answer p =
+    let l = p .before .before .before .before .before .before .before .before .before .before .before .before .before .before .loop in
+    let a = p .before .before .before .before .before .before .before .before .before .before .before .before .before .before .before .before .before .before .before .args in
+    told (a .c0) (a .flash .now) (l .g) (setOffset (a .pcc) (l .at)) (waitingAt (l .slot) (a .pcc) (l .target)) (l .ram) (l .tags) _ _ _ _ _ _ _ _ _ _ _
+    (p .before .before .before .before .before .before .before .before .before .before .before .before .set-offset .ensures) (p .before .before .before .before .before .before .before .before .before .before .fetch .ensures) (p .before .before .before .before .before .before .before .before .before .word-of .ensures) (slot-is (l .slot) (a .pcc) (l .target)) (p .before .before .before .before .before .before .before .before .ahead .ensures) (p .before .before .before .before .before .before .before .field-25 .ensures) (p .before .before .before .before .before .before .field-20 .ensures) (p .before .before .before .before .before .field-15 .ensures) (p .plainly .ensures)
+
+loop-holds : tie.Need-loop-holds Inv-loop μ-loop
+loop-holds c = (refl, refl, omega arith, starts _ _ _ _ _ _ _)
+
+same-length : tie.Need-same-length Inv-loop μ-loop
+same-length c = omega (arith, c .before .before .before .before .before .before .before .plainly .kept .1 .1 .1 .1 .1 .1 .1 .1 .0, c .before .before .before .before .before .before .before .before .before .before .before .before .before .before .before .before .before .before .before .before .before .loop .inv .0)
+
+same-length-2 : tie.Need-same-length-2 Inv-loop μ-loop
+same-length-2 c = omega (arith, c .before .before .before .before .before .before .before .plainly .kept .1 .1 .1 .1 .1 .1 .1 .1 .1 .0, c .before .before .before .before .before .before .before .before .before .before .before .before .before .before .before .before .before .before .before .before .before .loop .inv .1)
+
+returns : tie.Need-returns Inv-loop μ-loop
+returns c = rw (c .come-to .ensures) (c .before .before .before .before .before .before .before .before .before .before .before .before .before .before .before .before .before .before .before .before .before .loop .inv .2, rests _ _ _ _ _ _ _ _ _ _ _ _ _ _ _ (c .before .before .before .before .before .before .before .before .before .before .before .before .before .before .before .before .before .before .before .before .before .loop .inv .3) _ (answer (c .before .before .before .before .before .before .before)) (c .before .enum-told .given .1))
+
+add-n : tie.Need-add-n Inv-loop μ-loop
+add-n c = omega (arith, c .before .before .before .before .before .before .before .before .before .before .before .before .before .before .before .before .before .before .before .before .before .before .loop-test .taken, c .before .before .before .before .before .before .before .before .before .before .before .before .before .before .before .before .before .before .before .before .before .before .before .before .before .before .before .before .fits .budget)
+
+loop-less : tie.Need-loop-less Inv-loop μ-loop
+loop-less c = omega (arith, c .before .before .before .before .before .before .before .before .before .before .before .before .before .before .before .before .before .before .before .before .before .before .loop-test .taken)
+
+loop-again : tie.Need-loop-again Inv-loop μ-loop
+loop-again c =
+    let l = c .before .before .before .before .before .before .before .before .before .before .before .before .before .before .before .before .before .before .before .before .before .before .before .loop in
+    let a = c .before .before .before .before .before .before .before .before .before .before .before .before .before .before .before .before .before .before .before .before .before .before .before .before .before .before .before .before .args in (omega (arith, c .before .before .before .before .before .before .before .before .before .plainly .kept .1 .1 .1 .1 .1 .1 .1 .1 .0, c .before .before .before .before .before .before .before .before .before .before .before .before .before .before .before .before .before .before .before .before .before .before .before .loop .inv .0), omega (arith, c .before .before .before .before .before .before .before .before .before .plainly .kept .1 .1 .1 .1 .1 .1 .1 .1 .1 .0, c .before .before .before .before .before .before .before .before .before .before .before .before .before .before .before .before .before .before .before .before .before .before .before .loop .inv .1), omega (arith, c .before .before .before .before .before .before .before .before .before .before .before .before .before .before .before .before .before .before .before .before .before .before .loop-test .taken), sets _ _ _ _ _ _ _ _ _ _ _ _ _ _ _ (c .before .before .before .before .before .before .before .before .before .before .before .before .before .before .before .before .before .before .before .before .before .before .before .loop .inv .3) _ _ _ _ _ (answer (c .before .before .before .before .before .before .before .before .before)) (c .before .before .before .did .given .1) (c .before .kept-zero .ensures) (next-is (l .slot) (a .pcc) (l .at) (l .target) _ (c .next-at .ensures)))
+
+add-n-2 : tie.Need-add-n-2 Inv-loop μ-loop
+add-n-2 c = omega (arith, c .before .before .before .before .before .before .before .before .before .before .before .before .before .before .before .before .before .before .before .before .before .before .loop-test .taken, c .before .before .before .before .before .before .before .before .before .before .before .before .before .before .before .before .before .before .before .before .before .before .before .before .before .before .before .before .fits .budget)
+
+loop-less-2 : tie.Need-loop-less-2 Inv-loop μ-loop
+loop-less-2 c = omega (arith, c .before .before .before .before .before .before .before .before .before .before .before .before .before .before .before .before .before .before .before .before .before .before .loop-test .taken)
+
+loop-again-2 : tie.Need-loop-again-2 Inv-loop μ-loop
+loop-again-2 c =
+    let l = c .before .before .before .before .before .before .before .before .before .before .before .before .before .before .before .before .before .before .before .before .before .before .before .loop in
+    let a = c .before .before .before .before .before .before .before .before .before .before .before .before .before .before .before .before .before .before .before .before .before .before .before .before .before .before .before .before .args in (omega (arith, c .before .before .before .before .before .before .before .before .before .plainly .kept .1 .1 .1 .1 .1 .1 .1 .1 .0, c .before .before .before .before .before .before .before .before .before .before .before .before .before .before .before .before .before .before .before .before .before .before .before .loop .inv .0), omega (arith, c .before .before .before .before .before .before .before .before .before .plainly .kept .1 .1 .1 .1 .1 .1 .1 .1 .1 .0, c .before .before .before .before .before .before .before .before .before .before .before .before .before .before .before .before .before .before .before .before .before .before .before .loop .inv .1), omega (arith, c .before .before .before .before .before .before .before .before .before .before .before .before .before .before .before .before .before .before .before .before .before .before .loop-test .taken), jumps _ _ _ _ _ _ _ _ _ _ _ _ _ _ _ (c .before .before .before .before .before .before .before .before .before .before .before .before .before .before .before .before .before .before .before .before .before .before .before .loop .inv .3) _ _ _ _ (answer (c .before .before .before .before .before .before .before .before .before)) (c .before .before .before .did2 .given .1) (next-is (l .slot) (a .pcc) (l .at) (l .target) _ (c .next-at2 .ensures)) (branch-is (a .pcc) (l .at) _ _ (c .before .branch-offset .ensures)))
+
+same-length-3 : tie.Need-same-length-3 Inv-loop μ-loop
+same-length-3 c = omega (arith, c .before .before .loop .inv .0)
+
+same-length-4 : tie.Need-same-length-4 Inv-loop μ-loop
+same-length-4 c = omega (arith, c .before .before .loop .inv .1)
+
+returns-2 : tie.Need-returns-2 Inv-loop μ-loop
+returns-2 c = rw (c .come-to2 .ensures) (c .before .before .loop .inv .2, c .before .before .loop .inv .3)
+
+pub slide-spec : {M : Type 1} → statement M
+slide-spec =
+    tie.close
+    (tie.spec
+    Inv-loop
+    μ-loop
+    loop-holds
+    asks asks asks asks asks
+    (λ c. search needs)
+    asks
+    (λ c. search needs)
+    asks
+    (λ c. search needs)
+    (λ c. search needs)
+    (λ c. search needs)
+    (λ c. search needs)
+    asks
+    (λ c. search needs)
+    asks
+    same-length
+    same-length-2
+    returns
+    (λ c. search needs)
+    (λ c. search needs)
+    asks
+    (λ c. search needs)
+    (λ c. search needs)
+    asks
+    add-n
+    loop-less
+    loop-again
+    (λ c. search needs)
+    (λ c. search needs)
+    asks asks
+    add-n-2
+    loop-less-2
+    loop-again-2
+    asks
+    same-length-3
+    same-length-4
+    returns-2)

@@ -1,0 +1,67 @@
+use Rattle.mem.proofs.Calls.{asks}
+use mathlib.Core.Path.{refl}
+use Rattle.checks.specs.Checks.{settle}
+use Rattle.plan.specs.Plan.{planOf}
+use Rattle.perform.specs.Perform.{turnOf, ramOf, tagsOf}
+use Rattle.plain.proofs.Laws.{load-means, store-means, branch-means}
+use borrow.Author.Needs.{needs}
+use Rattle.plain.proofs.plainly.Statement.{statement}
+use Rattle.plain.proofs.plainly.Tie as tie
+
+returns : tie.Need-returns
+unfolding planOf settle turnOf ramOf tagsOf
+returns c = rw (c .enum-told .given .1) (λ o s. (refl, (refl, refl)))
+
+returns-2 : tie.Need-returns-2
+unfolding planOf settle turnOf ramOf tagsOf
+returns-2 c = rw (c .before .before .i .given .1) (λ o s. rw (s .is-n15, s .is-g25, s .is-g20, ← c .compute .ensures) (refl, (refl, refl)))
+
+returns-3 : tie.Need-returns-3
+unfolding planOf settle turnOf ramOf tagsOf
+returns-3 c = rw (c .before .before .i2 .given .1) (λ o s. rw (s .is-n20, s .is-g25, ← c .compute2 .ensures) (refl, (refl, refl)))
+
+returns-4 : tie.Need-returns-4
+unfolding planOf settle turnOf ramOf tagsOf
+returns-4 c = rw (c .before .i3 .given .1) (λ o s. rw (s .is-n20) (refl, (refl, refl)))
+
+returns-5 : tie.Need-returns-5
+unfolding planOf
+returns-5 c = rw (c .before .before .before .i4 .given .1, c .branches .ensures) (λ o s. branch-means o _ _ _ _ _ _ _ _ _ _ s _ _ (c .before .is-wanted .ensures))
+
+returns-6 : tie.Need-returns-6
+unfolding planOf
+returns-6 c = rw (c .before .before .before .before .i5 .given .1, c .loads .ensures) (λ o s. load-means o _ _ _ _ _ _ _ _ _ _ s _ _ (c .before .before .reached .ensures))
+
+returns-7 : tie.Need-returns-7
+unfolding planOf
+returns-7 c = let k = c .before .before .before .before in
+    rw (k .before .before .before .before .before .i6 .given .1, k .stores .ensures .0, k .stores .ensures .1 .0, k .stores .ensures .1 .1)
+    (λ o s. store-means o _ _ _ _ _ _ _ _ _ _ s _ _ (k .before .before .before .reached2 .ensures))
+
+pub plainly-spec : {M : Type 1} → statement M
+plainly-spec =
+    tie.close
+    (tie.spec
+    (λ c. search needs)
+    (λ c. search needs)
+    asks
+    (λ c. search needs)
+    asks
+    (λ c. search needs)
+    (λ c. search needs)
+    asks asks
+    (λ c. search needs)
+    asks asks
+    (λ c. search needs)
+    asks asks
+    returns
+    returns-2
+    returns-3
+    returns-4
+    returns-5
+    (λ c. search needs)
+    returns-6
+    (λ c. search needs)
+    (λ c. search needs)
+    returns-7
+    (λ c. search needs))

@@ -1,0 +1,98 @@
+-- Instructions that look at no capability register but C0: what their step writes is what the whole step's definition says.
+use Prim.Native.Nat.{ℕ}
+use mathlib.Core.Path.{_≡_}
+use mathlib.Core.Bool.{Bool, false, cond, _&&_}
+use mathlib.Core.List.{List}
+use Rattle.mem.specs.declared.Address.{Address}
+use Rattle.mem.specs.declared.Size.{Size}
+use Rattle.mem.specs.declared.Loaded.{Loaded}
+use Rattle.mem.specs.declared.Stored.{Stored}
+use Rattle.mem.specs.Number.{bytesIn, toBe}
+use Rattle.mem.specs.Place.{loadOf}
+use Rattle.mem.specs.Store.{answerAt, ramAfter, tagsAfter}
+use Rattle.cap.specs.declared.Cap.{Cap}
+use Rattle.access.specs.declared.Access.{Access}
+use Rattle.access.specs.Access.{accessOf}
+use Rattle.isa.specs.declared.Instr.{Instr}
+use Rattle.isa.specs.Decode.{decodeWord, isJumpWord}
+use Rattle.checks.specs.declared.Named.{Named}
+use Rattle.checks.specs.declared.Fault.{Fault}
+use Rattle.checks.specs.declared.Effect.{Effect}
+use Rattle.checks.specs.declared.Planned.{Planned}
+use Rattle.checks.specs.Checks.{settle, opened, tagged, unsealed, granted}
+use Rattle.transfer.specs.Transfer.{lies}
+use Rattle.jump.specs.Jump.{branchTo}
+use Rattle.plan.specs.declared.Operands.{Operands}
+use Rattle.plan.specs.Plan.{planOf}
+use Rattle.perform.specs.declared.Pending.{Pending}
+use Rattle.perform.specs.declared.Turn.{Turn}
+use Rattle.perform.specs.declared.Fetched.{Fetched}
+use Rattle.perform.specs.Perform.{toGeneral, toCapability, placeIn}
+use Rattle.perform.specs.Fetch.{doneTurn, doneRam, doneTags}
+use Rattle.plain.specs.declared.Plain.{Plain}
+
+-- fetch, then 7, then the word's instruction; a reserved one where the step stops before it
+abbrev pub aheadOf : Bool → Fetched → Instr
+aheadOf slot (Fetched.Stops fault) = Instr.Reserved
+aheadOf slot (Fetched.Word w) = cond (slot && isJumpWord w) Instr.Reserved (decodeWord w)
+
+abbrev pub byC0 : Cap → Named
+byC0 c0 = record { number = 0; cap = c0 }
+
+-- where an access through C0 lies, only if every check of it passes
+pub record Reaches (permission : ℕ) (pcc c0 : Cap) (rt immediate size : ℕ) (r : Access) : Type 0 where
+  pub passes : (misaligned : Fault) (effect : Address → Effect) (a : Address) → r ≡ Access.At a
+      → settle (opened pcc 0 (tagged (byC0 c0) (unsealed (byC0 c0) (granted permission (byC0 c0) (lies (accessOf c0 rt immediate size) 0 misaligned effect))))) ≡ Planned.Does (effect a)
+
+abbrev pub setsLoaded : ℕ → Loaded → Plain
+setsLoaded rd (Loaded.Value v) = Plain.Sets rd v
+setsLoaded rd Loaded.Nowhere = Plain.Other
+
+abbrev pub setsStored : Stored → Plain
+setsStored Stored.Done = Plain.Sets 0 0
+setsStored Stored.Flash = Plain.Other
+setsStored Stored.Nowhere = Plain.Other
+
+abbrev pub loadsAt : List ℕ → List ℕ → Size → ℕ → Access → Plain
+loadsAt flash ram size rd (Access.At a) = setsLoaded rd (loadOf flash ram a (bytesIn size))
+loadsAt flash ram size rd Access.Length = Plain.Other
+loadsAt flash ram size rd Access.Misaligned = Plain.Other
+
+abbrev pub storesAt : List ℕ → List ℕ → Size → Access → Plain
+storesAt flash ram size (Access.At a) = setsStored (answerAt (placeIn flash ram a (bytesIn size)))
+storesAt flash ram size Access.Length = Plain.Other
+storesAt flash ram size Access.Misaligned = Plain.Other
+
+abbrev pub storesRam : List ℕ → List ℕ → Size → ℕ → Access → List ℕ
+storesRam flash ram size v (Access.At a) = ramAfter (placeIn flash ram a (bytesIn size)) ram (toBe (bytesIn size) v)
+storesRam flash ram size v Access.Length = ram
+storesRam flash ram size v Access.Misaligned = ram
+
+abbrev pub storesTags : List ℕ → List ℕ → List ℕ → Size → Access → List ℕ
+storesTags flash ram tags size (Access.At a) = tagsAfter (placeIn flash ram a (bytesIn size)) tags false
+storesTags flash ram tags size Access.Length = tags
+storesTags flash ram tags size Access.Misaligned = tags
+
+abbrev pub branchesBy : Bool → ℕ → Plain
+branchesBy taken words = cond taken (Plain.Jumps words) (Plain.Sets 0 0)
+
+-- operands with these parts, whatever their others
+pub record Sees (o : Operands) (n20 n15 g25 g20 : ℕ) (pcc c0 : Cap) : Type 0 where
+  pub is-n20 : o .n20 ≡ n20
+  pub is-n15 : o .n15 ≡ n15
+  pub is-g25 : o .g25 ≡ g25
+  pub is-g20 : o .g20 ≡ g20
+  pub is-pcc : o .pcc ≡ pcc
+  pub is-c0 : o .c0 ≡ byC0 c0
+
+-- an answer says what the planned step does, to its registers and to RAM and tags; Other says that nothing was done
+abbrev pub Means : Operands → Planned → List ℕ → List ℕ → List ℕ → List ℕ → List ℕ → Plain → Type 0
+Means o planned flash ram tags ram′ tags′ (Plain.Sets rd v) =
+    (doneTurn o flash ram tags planned ≡ Turn.Next (toGeneral (o .c0 .cap) (o .cause) rd v)) × ((ram′ ≡ doneRam flash ram planned) × (tags′ ≡ doneTags flash ram tags planned))
+Means o planned flash ram tags ram′ tags′ (Plain.Jumps words) =
+    (doneTurn o flash ram tags planned ≡ Turn.Next (toCapability (o .cause) 0 (o .c0 .cap) (Pending.Jump (branchTo (o .pcc) words)))) × ((ram′ ≡ doneRam flash ram planned) × (tags′ ≡ doneTags flash ram tags planned))
+Means o planned flash ram tags ram′ tags′ Plain.Other = (ram′ ≡ ram) × (tags′ ≡ tags)
+
+abbrev pub Plainly : Instr → ℕ → ℕ → ℕ → ℕ → Cap → Cap → List ℕ → List ℕ → List ℕ → List ℕ → List ℕ → Plain → Type 0
+Plainly i n20 n15 g25 g20 pcc c0 flash ram tags ram′ tags′ r =
+    (o : Operands) → Sees o n20 n15 g25 g20 pcc c0 → Means o (settle (planOf o i)) flash ram tags ram′ tags′ r

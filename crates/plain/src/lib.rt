@@ -1,0 +1,138 @@
+// Instructions that look at no capability register but C0, carried out on the values that their words name.
+use access::Access;
+use cap::Cap;
+use checks::Check;
+use checks::Named;
+use isa::Instr;
+use mem::Loaded;
+use mem::Size;
+use mem::Stored;
+use perform::Fetched;
+ghost use mathlib.Core.Path.{_≡_};
+ghost use mathlib.Core.Bool.{Bool};
+ghost use Rattle.mem.specs.Number.{bytesIn};
+ghost use Rattle.plain.specs.Plain.{aheadOf, Reaches, setsLoaded, setsStored, loadsAt, storesAt, storesRam, storesTags, branchesBy, Plainly};
+
+// What such an instruction writes; Other for any other, and where it would stop: then nothing was done.
+pub enum Plain {
+    Sets(u8, u64),
+    Jumps(u64),
+    Other,
+}
+
+// The instruction of a step: fetch, then 7, then the word's; a reserved one where the step stops before it.
+pub fn ahead(fetched: Fetched, slot: bool) -> Instr
+    ensures { λ r. ⌜ r ≡ aheadOf slot fetched ⌝ }
+{
+    match fetched {
+        Fetched::Stops(_) => Instr::Reserved,
+        Fetched::Word(w) => {
+            if checks::both(slot, isa::is_jump_word(w)) {
+                return Instr::Reserved;
+            }
+            isa::decode(w)
+        }
+    }
+}
+
+// Where an access through C0 lies, if every check of it passes.
+fn reached(permission: u32, size: Size, immediate: u64, pcc: Cap, c0: Cap, rt: u64) -> Access
+    ensures { λ r. ⌜ Reaches permission pcc c0 rt immediate (bytesIn size) r ⌝ }
+{
+    let cb = Named { number: 0, cap: c0 };
+    let k = transfer::through(Check::Passed, pcc, cb, permission);
+    match k {
+        Check::Passed => access::test(c0, rt, immediate, size),
+        Check::Failed(_) => Access::Length,
+    }
+}
+
+fn sets_loaded(rd: u8, loaded: Loaded) -> Plain
+    ensures { λ r. ⌜ r ≡ setsLoaded rd loaded ⌝ }
+{
+    match loaded {
+        Loaded::Value(v) => Plain::Sets(rd, v),
+        Loaded::Nowhere => Plain::Other,
+    }
+}
+
+fn sets_stored(stored: Stored) -> Plain
+    ensures { λ r. ⌜ r ≡ setsStored stored ⌝ }
+{
+    match stored {
+        Stored::Done => Plain::Sets(0, 0),
+        Stored::Flash => Plain::Other,
+        Stored::Nowhere => Plain::Other,
+    }
+}
+
+fn loads<'a>(lies: Access, size: Size, rd: u8, flash: &'a [u8], ram: &'a [u8]) -> Plain
+    ensures { λ r. ⌜ r ≡ loadsAt (now (flash .entry)) (now (ram .entry)) size rd lies ⌝ }
+{
+    match lies {
+        Access::At(at) => sets_loaded(rd, mem::load(flash, ram, at, size)),
+        Access::Length => Plain::Other,
+        Access::Misaligned => Plain::Other,
+    }
+}
+
+fn stores(
+    lies: Access,
+    size: Size,
+    value: u64,
+    flash: &[u8],
+    ram: &mut [u8],
+    tags: &mut [u8],
+) -> Plain
+    ensures { λ r. ⌜ r ≡ storesAt (now (flash .entry)) (now (ram .entry)) size lies ⌝ }
+    ensures { λ _. ⌜ now (ram .exit) ≡ storesRam (now (flash .entry)) (now (ram .entry)) size value lies ⌝ }
+    ensures { λ _. ⌜ now (tags .exit) ≡ storesTags (now (flash .entry)) (now (ram .entry)) (now (tags .entry)) size lies ⌝ }
+{
+    match lies {
+        Access::At(at) => sets_stored(mem::store(flash.len(), ram, tags, at, size, value)),
+        Access::Length => Plain::Other,
+        Access::Misaligned => Plain::Other,
+    }
+}
+
+fn branches(taken: bool, words: u64) -> Plain
+    ensures { λ r. ⌜ r ≡ branchesBy taken words ⌝ }
+{
+    if taken {
+        return Plain::Jumps(words);
+    }
+    Plain::Sets(0, 0)
+}
+
+// What the instruction writes, on the registers at 25..21 and 20..16, and C0.
+pub fn plainly(
+    i: Instr,
+    n20: u8,
+    n15: u8,
+    g25: u64,
+    g20: u64,
+    pcc: Cap,
+    c0: Cap,
+    flash: &[u8],
+    ram: &mut [u8],
+    tags: &mut [u8],
+) -> Plain
+    ensures { λ r. ⌜ Plainly i n20 n15 g25 g20 pcc c0 (now (flash .entry)) (now (ram .entry)) (now (tags .entry)) (now (ram .exit)) (now (tags .exit)) r ⌝ }
+{
+    match i {
+        Instr::Nop => Plain::Sets(0, 0),
+        Instr::Compute(op) => Plain::Sets(n15, compute::compute(op, g25, g20)),
+        Instr::ComputeImmediate(op, x) => Plain::Sets(n20, compute::compute(op, g25, x)),
+        Instr::Lui(x) => Plain::Sets(n20, x),
+        Instr::Branch(equal, x) => branches(jump::is_wanted(equal, g25 == g20), x),
+        Instr::LoadByC0(size, x) => {
+            let at = reached(cap::LOAD, size, x, pcc, c0, g25);
+            loads(at, size, n20, flash, ram)
+        }
+        Instr::StoreByC0(size, x) => {
+            let at = reached(cap::STORE, size, x, pcc, c0, g25);
+            stores(at, size, g20, flash, ram, tags)
+        }
+        _ => Plain::Other,
+    }
+}
