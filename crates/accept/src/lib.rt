@@ -63,7 +63,7 @@ pub fn top_fits(c: Cap) -> bool
     !checks::both(c.tag, cap::past_top(c.base, c.length))
 }
 
-fn loaded_fits(loaded: LoadedCap) -> bool
+pub fn loaded_fits(loaded: LoadedCap) -> bool
     ensures { λ r. ⌜ r ≡ loadedFits loaded ⌝ }
 {
     match loaded {
