@@ -1,4 +1,4 @@
--- A run: the start is judged first, then come its steps (01, "Stop numbers" and "Refusals").
+-- A run: the start is judged first, then come its steps (01, "Stop numbers").
 use Prim.Native.Nat.{ℕ}
 use mathlib.Core.List.{List}
 use lib.ListN.{length, getD}

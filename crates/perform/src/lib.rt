@@ -1,4 +1,4 @@
-// The only part that touches memory: a word fetched through PCC, and an instruction carried out.
+// Where memory is touched by a whole step: a word fetched through PCC, and an instruction carried out.
 use access::Access;
 use cap::Cap;
 use checks::Effect;

@@ -1,4 +1,4 @@
--- A run: the start is judged, then as many steps as the budget has, or up to the one that stops.
+-- Many steps: as many as the budget has, or up to the one that stops (01, "Stop numbers").
 use Prim.Native.Nat.{ℕ, zero, suc, _+_}
 use mathlib.Core.List.{List}
 use lib.ListN.{length, getD}
