@@ -10,8 +10,8 @@ ghost use Rattle.checks.specs.Checks.{Guards, ok, fail, finish, stopNumb
 
 // A capability register that a word names, and what it holds.
 pub struct Named {
-    pub number: u8,
     pub cap: Cap,
+    pub number: u8,
 }
 
 // Why a step stops.

@@ -9,82 +9,135 @@ use Rattle.mem.specs.declared.Offset.{Offset}
 use Rattle.cap.specs.declared.Cap.{Cap}
 use Rattle.cap.specs.Narrow.{null, setOffset, incOffset}
 use Rattle.isa.specs.declared.Instr.{Instr}
-use Rattle.isa.specs.Word.{field25, field20, field15}
+use Rattle.isa.specs.Word.{field25, field20, field15, field10}
 use Rattle.jump.specs.Jump.{branchOffset, branchTo}
+use Rattle.checks.specs.declared.Planned.{Planned}
+use Rattle.checks.specs.Checks.{settle}
 use Rattle.plan.specs.declared.Operands.{Operands}
+use Rattle.plan.specs.Plan.{planOf}
+use Rattle.perform.specs.declared.Change.{Change}
 use Rattle.perform.specs.declared.Pending.{Pending}
 use Rattle.perform.specs.declared.Fetched.{Fetched}
-use Rattle.perform.specs.Fetch.{fetchOf, wordOf, isPending, plannedOf}
+use Rattle.perform.specs.Perform.{toGeneral}
+use Rattle.perform.specs.Fetch.{fetchOf, wordOf, isPending}
 use Rattle.plain.specs.declared.Plain.{Plain}
-use Rattle.plain.specs.Plain.{aheadOf, Sees, Means, Plainly}
-use Rattle.plain.proofs.Laws.{ahead-means}
+use Rattle.plain.specs.Plain.{aheadOf, Does, Untouched, Sees, Means, Plainly}
+use Rattle.plain.proofs.Laws.{ahead-goes}
+use Rattle.capable.specs.declared.Capable.{Capable}
+use Rattle.capable.specs.Capable.{Shows, Amounts, Capably}
 use Rattle.state.specs.State.{operandsOf, kept, nextPcc, commit}
 use Rattle.state.specs.Steps.{turnAt, ramAt, tagsAt, runFrom}
 use Rattle.glide.specs.Glide.{nextAt, waitingAt, holding, Glides}
 use Rattle.state.proofs.Runs.{goes}
 
--- what a plain answer says of the step, whatever the other capability registers hold and the cause
-pub record Tells (c0 : Cap) (flash g : List ℕ) (pcc : Cap) (pending : Pending) (ram tags ram′ tags′ : List ℕ) (r : Plain) : Type 0 where
-  pub tells : (caps : List Cap) (cause : ℕ) → getD caps 0 null ≡ c0
-      → Means (operandsOf (holding g caps pcc pending cause) (wordOf (fetchOf flash ram pcc)))
-      (plannedOf (operandsOf (holding g caps pcc pending cause) (wordOf (fetchOf flash ram pcc))) (isPending pending) (fetchOf flash ram pcc)) flash ram tags ram′ tags′ r
+-- the operands of the step at PCC
+abbrev here-operands : List ℕ → List ℕ → List ℕ → List Cap → Cap → Pending → ℕ → Operands
+here-operands flash ram g caps pcc pending cause = operandsOf (holding g caps pcc pending cause) (wordOf (fetchOf flash ram pcc))
 
-sees : (g : List ℕ) (pcc : Cap) (pending : Pending) (w : ℕ) (caps : List Cap) (cause : ℕ) (c0 : Cap) → getD caps 0 null ≡ c0
-    → Sees (operandsOf (holding g caps pcc pending cause) w) (field20 w) (field15 w) (getD g (field25 w) 0) (getD g (field20 w) 0) pcc c0
+-- what that step plans
+abbrev here-planned : List ℕ → List ℕ → List ℕ → List Cap → Cap → Pending → ℕ → Planned
+here-planned flash ram g caps pcc pending cause = settle (planOf (here-operands flash ram g caps pcc pending cause) (aheadOf (isPending pending) (fetchOf flash ram pcc)))
+
+-- what an answer of the shorter way says of the step, whatever the cause
+pub record Tells (flash g : List ℕ) (caps : List Cap) (pcc : Cap) (pending : Pending) (ram tags ram′ tags′ : List ℕ) (r : Plain) : Type 0 where
+  pub tells : (cause : ℕ) → Means (here-operands flash ram g caps pcc pending cause) (here-planned flash ram g caps pcc pending cause) flash ram tags ram′ tags′ r
+
+pub record Adds (flash g : List ℕ) (caps : List Cap) (pcc : Cap) (pending : Pending) (ram tags ram′ tags′ : List ℕ) (r : Capable) : Type 0 where
+  pub adds : (cause : ℕ) → Amounts (here-operands flash ram g caps pcc pending cause) (here-planned flash ram g caps pcc pending cause) flash ram tags ram′ tags′ r
+
+sees : (g : List ℕ) (caps : List Cap) (pcc : Cap) (pending : Pending) (w cause : ℕ)
+    → Sees (operandsOf (holding g caps pcc pending cause) w) (field20 w) (field15 w) (getD g (field25 w) 0) (getD g (field20 w) 0) pcc (getD caps 0 null)
 unfolding operandsOf
-sees g pcc pending w caps cause c0 h = record { is-n20 = refl; is-n15 = refl; is-g25 = refl; is-g20 = refl; is-pcc = refl; is-c0 = rw h }
+sees g caps pcc pending w cause = record { is-n20 = refl; is-n15 = refl; is-g25 = refl; is-g20 = refl; is-pcc = refl; is-c0 = refl }
+
+shows : (g : List ℕ) (caps : List Cap) (pcc : Cap) (pending : Pending) (w cause : ℕ)
+    → Shows (operandsOf (holding g caps pcc pending cause) w) (field25 w) (field20 w) (getD g (field25 w) 0) (getD g (field15 w) 0) (getD g (field10 w) 0) pcc
+    (record { cap = getD caps (field20 w) null; number = field20 w }) (record { cap = getD caps (field15 w) null; number = field15 w })
+unfolding operandsOf
+shows g caps pcc pending w cause = record { is-n25 = refl; is-n20 = refl; is-g25 = refl; is-g15 = refl; is-g10 = refl; is-pcc = refl; is-c20 = refl; is-c15 = refl }
 
 -- what the code hands over is what the word names
-pub told : (c0 : Cap) (flash g : List ℕ) (pcc : Cap) (pending : Pending) (ram tags ram′ tags′ : List ℕ) (r : Plain) (here : Cap) (fetched : Fetched) (w : ℕ) (i : Instr) (slot : Bool) (i25 i20 n15 : ℕ)
-    → here ≡ pcc → fetched ≡ fetchOf flash ram here → w ≡ wordOf fetched → slot ≡ isPending pending → i ≡ aheadOf slot fetched → i25 ≡ field25 w → i20 ≡ field20 w → n15 ≡ field15 w
-    → Plainly i i20 n15 (getD g i25 0) (getD g i20 0) here c0 flash ram tags ram′ tags′ r
-    → Tells c0 flash g pcc pending ram tags ram′ tags′ r
-told c0 flash g pcc pending ram tags ram′ tags′ r here fetched w i slot i25 i20 n15 fh f fw fs fi f25 f20 f15 did = record {
-  tells = λ caps cause h.
-      ahead-means (operandsOf (holding g caps pcc pending cause) (wordOf (fetchOf flash ram pcc))) (isPending pending) (fetchOf flash ram pcc) flash ram tags ram′ tags′ r
-      ((rw (fi, fs, f25, f20, f15, fw, f, fh) at did) (operandsOf (holding g caps pcc pending cause) (wordOf (fetchOf flash ram pcc))) (sees g pcc pending (wordOf (fetchOf flash ram pcc)) caps cause c0 h));
-}
+module _ (flash g : List ℕ) (caps : List Cap) (pcc : Cap) (pending : Pending) (ram tags ram′ tags′ : List ℕ) (here : Cap) (fetched : Fetched) (w : ℕ) (i : Instr) (slot : Bool) (i25 i20 i15 : ℕ)
+    (fh : here ≡ pcc) (f : fetched ≡ fetchOf flash ram here) (fw : w ≡ wordOf fetched) (fs : slot ≡ isPending pending) (fi : i ≡ aheadOf slot fetched) (f25 : i25 ≡ field25 w) (f20 : i20 ≡ field20 w) (f15 : i15 ≡ field15 w) where
+  pub told : (r : Plain) → Plainly i i20 i15 (getD g i25 0) (getD g i20 0) here (getD caps 0 null) flash ram tags ram′ tags′ r → Tells flash g caps pcc pending ram tags ram′ tags′ r
+  told r did = record {
+    tells = λ cause.
+        (rw (fi, fs, f25, f20, f15, fw, f, fh) at did) (here-operands flash ram g caps pcc pending cause) (sees g caps pcc pending (wordOf (fetchOf flash ram pcc)) cause);
+  }
+
+  pub added : (ram₁ tags₁ : List ℕ) (i10 : ℕ) (r : Capable) → Untouched ram tags ram₁ tags₁ → i10 ≡ field10 w
+      → Capably i i25 i20 (getD g i25 0) (getD g i15 0) (getD g i10 0) here (record { cap = getD caps i20 null; number = i20 }) (record { cap = getD caps i15 null; number = i15 }) flash ram₁ tags₁ ram′ tags′ r
+      → Adds flash g caps pcc pending ram tags ram′ tags′ r
+  added ram₁ tags₁ i10 r u f10 did = record {
+    adds = λ cause.
+        (rw (u .0, u .1, fi, fs, f10, f25, f20, f15, fw, f, fh) at did) (here-operands flash ram g caps pcc pending cause) (shows g caps pcc pending (wordOf (fetchOf flash ram pcc)) cause);
+  }
+
+  pub fifteen : i15 ≡ field15 (wordOf (fetchOf flash ram pcc))
+  fifteen = rw (f15, fw, f, fh)
 
 -- C0 written as it was
 same-first : (caps : List Cap) → set caps 0 (getD caps 0 null) ≡ caps
 same-first [] = refl
 same-first (c ∷ cs) = refl
 
-module _ (c0 : Cap) (flash g₀ : List ℕ) (pcc₀ : Cap) (pending₀ : Pending) (ram₀ tags₀ : List ℕ) (n : ℕ) (g : List ℕ) (pcc : Cap) (pending : Pending) (ram tags ram′ tags′ : List ℕ)
-    (so-far : Glides c0 flash g₀ pcc₀ pending₀ ram₀ tags₀ n g pcc pending ram tags) where
+-- a step that its plan lets go on is a step of the definition
+step-goes : (flash g : List ℕ) (caps : List Cap) (pcc : Cap) (pending : Pending) (ram tags ram′ tags′ : List ℕ) (cause k s : ℕ) (d : Change)
+    → Does (here-operands flash ram g caps pcc pending cause) (here-planned flash ram g caps pcc pending cause) flash ram tags ram′ tags′ d
+    → runFrom (suc k) s flash (holding g caps pcc pending cause) ram tags ≡ runFrom k (s + 1) flash (commit (holding g caps pcc pending cause) d) ram′ tags′
+unfolding turnAt ramAt tagsAt
+step-goes flash g caps pcc pending ram tags ram′ tags′ cause k s d e =
+    let o = here-operands flash ram g caps pcc pending cause in
+    let x = rw (ahead-goes o (isPending pending) (fetchOf flash ram pcc) flash ram tags d (e .0)) at e in
+    goes k s flash ram tags (holding g caps pcc pending cause) d (x .0) ∙ rw (x .1 .0, x .1 .1)
+
+module _ (flash g₀ : List ℕ) (caps₀ : List Cap) (pcc₀ : Cap) (pending₀ : Pending) (ram₀ tags₀ : List ℕ) (n : ℕ) (g : List ℕ) (caps : List Cap) (pcc : Cap) (pending : Pending) (ram tags ram′ tags′ : List ℕ)
+    (so-far : Glides flash g₀ caps₀ pcc₀ pending₀ ram₀ tags₀ n g caps pcc pending ram tags) where
   -- from here on, one step of the definition
-  onward : (caps : List Cap) (cause k s : ℕ) → getD caps 0 null ≡ c0
-      → runFrom (n + 1 + k) s flash (holding g₀ caps pcc₀ pending₀ cause) ram₀ tags₀ ≡ runFrom (suc k) (s + n) flash (holding g caps pcc pending cause) ram tags
-  onward caps cause k s h = let e : n + 1 + k ≡ n + suc k = omega arith in rw e (so-far .leads caps cause (suc k) s h)
+  onward : (cause k s : ℕ) → runFrom (n + 1 + k) s flash (holding g₀ caps₀ pcc₀ pending₀ cause) ram₀ tags₀ ≡ runFrom (suc k) (s + n) flash (holding g caps pcc pending cause) ram tags
+  onward cause k s = let e : n + 1 + k ≡ n + suc k = omega arith in rw e (so-far .leads cause (suc k) s)
 
-  pub sets : (r : Plain) (rd v v′ : ℕ) (pcc′ : Cap) → Tells c0 flash g pcc pending ram tags ram′ tags′ r → r ≡ Plain.Sets rd v → v′ ≡ kept (rd % 32) v → pcc′ ≡ nextPcc pcc pending
-      → Glides c0 flash g₀ pcc₀ pending₀ ram₀ tags₀ (n + 1) (set g (rd % 32) v′) pcc′ Pending.Quiet ram′ tags′
-  unfolding turnAt ramAt tagsAt commit operandsOf
-  sets r rd v v′ pcc′ t q qv qp = record {
-    leads = λ caps cause k s h.
-        let m = rw q at (t .tells caps cause h) in
-        let e : s + (n + 1) ≡ s + n + 1 = omega arith in
-        onward caps cause k s h ∙ goes k (s + n) flash ram tags (holding g caps pcc pending cause) _ (m .0) ∙ rw (e, qv, qp, m .1 .0, m .1 .1, same-first caps);
-  }
+  then-goes : (cause k s : ℕ) (d : Change) → Does (here-operands flash ram g caps pcc pending cause) (here-planned flash ram g caps pcc pending cause) flash ram tags ram′ tags′ d
+      → runFrom (n + 1 + k) s flash (holding g₀ caps₀ pcc₀ pending₀ cause) ram₀ tags₀ ≡ runFrom k (s + (n + 1)) flash (commit (holding g caps pcc pending cause) d) ram′ tags′
+  then-goes cause k s d e = let q : s + (n + 1) ≡ s + n + 1 = omega arith in rw q (onward cause k s ∙ step-goes flash g caps pcc pending ram tags ram′ tags′ cause k (s + n) d e)
 
-  pub jumps : (r : Plain) (words : ℕ) (pcc′ : Cap) (jump : Pending) → Tells c0 flash g pcc pending ram tags ram′ tags′ r → r ≡ Plain.Jumps words → pcc′ ≡ nextPcc pcc pending → Pending.Jump (branchTo pcc words) ≡ jump
-      → Glides c0 flash g₀ pcc₀ pending₀ ram₀ tags₀ (n + 1) (set g 0 0) pcc′ jump ram′ tags′
-  unfolding turnAt ramAt tagsAt commit operandsOf
-  jumps r words pcc′ jump t q qp qj = record {
-    leads = λ caps cause k s h.
-        let m = rw q at (t .tells caps cause h) in
-        let e : s + (n + 1) ≡ s + n + 1 = omega arith in
-        onward caps cause k s h ∙ goes k (s + n) flash ram tags (holding g caps pcc pending cause) _ (m .0) ∙ rw (e, qp, ← qj, m .1 .0, m .1 .1, same-first caps);
-  }
+  set-general : (rd v v′ : ℕ) (pcc′ : Cap) → v′ ≡ kept (rd % 32) v → pcc′ ≡ nextPcc pcc pending
+      → ((cause : ℕ) → Does (here-operands flash ram g caps pcc pending cause) (here-planned flash ram g caps pcc pending cause) flash ram tags ram′ tags′ (toGeneral (here-operands flash ram g caps pcc pending cause .c0 .cap) (here-operands flash ram g caps pcc pending cause .cause) rd v))
+      → Glides flash g₀ caps₀ pcc₀ pending₀ ram₀ tags₀ (n + 1) (set g (rd % 32) v′) caps pcc′ Pending.Quiet ram′ tags′
+  unfolding commit operandsOf
+  set-general rd v v′ pcc′ qv qp does = record { leads = λ cause k s. then-goes cause k s _ (does cause) ∙ rw (qv, qp, same-first caps) }
+
+  pub sets : (r : Plain) (rd v v′ : ℕ) (pcc′ : Cap) → Tells flash g caps pcc pending ram tags ram′ tags′ r → r ≡ Plain.Sets rd v → v′ ≡ kept (rd % 32) v → pcc′ ≡ nextPcc pcc pending
+      → Glides flash g₀ caps₀ pcc₀ pending₀ ram₀ tags₀ (n + 1) (set g (rd % 32) v′) caps pcc′ Pending.Quiet ram′ tags′
+  sets r rd v v′ pcc′ t q qv qp = set-general rd v v′ pcc′ qv qp (λ cause. rw q at (t .tells cause))
+
+  pub also-sets : (r : Capable) (rd v v′ : ℕ) (pcc′ : Cap) → Adds flash g caps pcc pending ram tags ram′ tags′ r → r ≡ Capable.Sets rd v → v′ ≡ kept (rd % 32) v → pcc′ ≡ nextPcc pcc pending
+      → Glides flash g₀ caps₀ pcc₀ pending₀ ram₀ tags₀ (n + 1) (set g (rd % 32) v′) caps pcc′ Pending.Quiet ram′ tags′
+  also-sets r rd v v′ pcc′ t q qv qp = set-general rd v v′ pcc′ qv qp (λ cause. rw q at (t .adds cause))
+
+  pub moves : (r : Capable) (cd i15 : ℕ) (to : Offset) (c pcc′ : Cap) → Adds flash g caps pcc pending ram tags ram′ tags′ r → r ≡ Capable.Moves cd to → i15 ≡ field15 (wordOf (fetchOf flash ram pcc))
+      → c ≡ setOffset (getD caps i15 null) to → pcc′ ≡ nextPcc pcc pending
+      → Glides flash g₀ caps₀ pcc₀ pending₀ ram₀ tags₀ (n + 1) (set g 0 0) (set caps (cd % 32) c) pcc′ Pending.Quiet ram′ tags′
+  unfolding commit operandsOf
+  moves r cd i15 to c pcc′ t q f15 qc qp = record { leads = λ cause k s. then-goes cause k s _ (rw q at (t .adds cause)) ∙ rw (qc, f15, qp) }
+
+  pub jumps : (r : Plain) (words : ℕ) (pcc′ : Cap) (jump : Pending) → Tells flash g caps pcc pending ram tags ram′ tags′ r → r ≡ Plain.Jumps words → pcc′ ≡ nextPcc pcc pending → Pending.Jump (branchTo pcc words) ≡ jump
+      → Glides flash g₀ caps₀ pcc₀ pending₀ ram₀ tags₀ (n + 1) (set g 0 0) caps pcc′ jump ram′ tags′
+  unfolding commit operandsOf
+  jumps r words pcc′ jump t q qp qj = record { leads = λ cause k s. then-goes cause k s _ (rw q at (t .tells cause)) ∙ rw (qp, ← qj, same-first caps) }
 
   -- a step that is none of these was not begun
-  pub rests : (r : Plain) → Tells c0 flash g pcc pending ram tags ram′ tags′ r → r ≡ Plain.Other → Glides c0 flash g₀ pcc₀ pending₀ ram₀ tags₀ n g pcc pending ram′ tags′
-  rests r t q = let m = rw q at (t .tells (c0 ∷ []) 0 refl) in rw (m .0, m .1) so-far
+  pub rests : (r : Capable) → Adds flash g caps pcc pending ram tags ram′ tags′ r → r ≡ Capable.Other → Glides flash g₀ caps₀ pcc₀ pending₀ ram₀ tags₀ n g caps pcc pending ram′ tags′
+  rests r t q = let m = rw q at (t .adds 0) in rw (m .0, m .1) so-far
+
+-- nor was it by its first half
+pub still : (flash g : List ℕ) (caps : List Cap) (pcc : Cap) (pending : Pending) (ram tags ram′ tags′ : List ℕ) (r : Plain) → Tells flash g caps pcc pending ram tags ram′ tags′ r → r ≡ Plain.Other → Untouched ram tags ram′ tags′
+still flash g caps pcc pending ram tags ram′ tags′ r t q = rw q at (t .tells 0)
 
 -- no step
-pub starts : (c0 : Cap) (flash g : List ℕ) (pcc : Cap) (pending : Pending) (ram tags : List ℕ) → Glides c0 flash g pcc pending ram tags 0 g pcc pending ram tags
-starts c0 flash g pcc pending ram tags = record {
-  leads = λ caps cause k s h. let e : s + 0 ≡ s = omega arith in let e0 : 0 + k ≡ k = omega arith in rw (e, e0);
+pub starts : (flash g : List ℕ) (caps : List Cap) (pcc : Cap) (pending : Pending) (ram tags : List ℕ) → Glides flash g caps pcc pending ram tags 0 g caps pcc pending ram tags
+starts flash g caps pcc pending ram tags = record {
+  leads = λ cause k s. let e : s + 0 ≡ s = omega arith in let e0 : 0 + k ≡ k = omega arith in rw (e, e0);
 }
 
 -- PCC and the pending jump as an offset, a flag and a target
@@ -102,8 +155,8 @@ unfolding branchTo
 branch-is pcc at to words q = ap (λ (o : Offset). Pending.Jump (setOffset pcc o)) (sym q)
 
 -- the steps that were glided, within a run
-pub along : (b n steps : ℕ) (flash g : List ℕ) (caps : List Cap) (pcc : Cap) (pending : Pending) (cause : ℕ) (ram tags g′ : List ℕ) (pcc′ : Cap) (pending′ : Pending) (ram′ tags′ : List ℕ)
-    → steps ≤ b - n → Glides (getD caps 0 null) flash g pcc pending ram tags steps g′ pcc′ pending′ ram′ tags′
-    → runFrom (b - (n + steps)) (n + steps) flash (holding g′ caps pcc′ pending′ cause) ram′ tags′ ≡ runFrom (b - n) n flash (holding g caps pcc pending cause) ram tags
-along b n steps flash g caps pcc pending cause ram tags g′ pcc′ pending′ ram′ tags′ h glided =
-    let e : b - n ≡ steps + (b - (n + steps)) = omega arith in rw e (sym (glided .leads caps cause (b - (n + steps)) n refl))
+pub along : (b n steps : ℕ) (flash g : List ℕ) (caps : List Cap) (pcc : Cap) (pending : Pending) (cause : ℕ) (ram tags g′ : List ℕ) (caps′ : List Cap) (pcc′ : Cap) (pending′ : Pending) (ram′ tags′ : List ℕ)
+    → steps ≤ b - n → Glides flash g caps pcc pending ram tags steps g′ caps′ pcc′ pending′ ram′ tags′
+    → runFrom (b - (n + steps)) (n + steps) flash (holding g′ caps′ pcc′ pending′ cause) ram′ tags′ ≡ runFrom (b - n) n flash (holding g caps pcc pending cause) ram tags
+along b n steps flash g caps pcc pending cause ram tags g′ caps′ pcc′ pending′ ram′ tags′ h glided =
+    let e : b - n ≡ steps + (b - (n + steps)) = omega arith in rw e (sym (glided .leads cause (b - (n + steps)) n))

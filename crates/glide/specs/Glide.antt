@@ -3,11 +3,10 @@ use Prim.Native.Nat.{ℕ, _+_}
 use mathlib.Core.Path.{_≡_}
 use mathlib.Core.Bool.{Bool, cond}
 use mathlib.Core.List.{List}
-use lib.ListN.{getD}
 use Rattle.mem.specs.declared.Offset.{Offset}
 use Rattle.mem.specs.Number.{movedBy}
 use Rattle.cap.specs.declared.Cap.{Cap}
-use Rattle.cap.specs.Narrow.{null, setOffset}
+use Rattle.cap.specs.Narrow.{setOffset}
 use Rattle.perform.specs.declared.Pending.{Pending}
 use Rattle.state.specs.declared.Machine.{Machine}
 use Rattle.state.specs.Steps.{runFrom}
@@ -21,7 +20,7 @@ waitingAt slot pcc target = cond slot (Pending.Jump (setOffset pcc target)) Pend
 abbrev pub holding : List ℕ → List Cap → Cap → Pending → ℕ → Machine
 holding g caps pcc pending cause = record { general = g; caps = caps; pcc = pcc; pending = pending; cause = cause }
 
--- so many steps lead from one to the other, whatever the capability registers but C0 hold, the cause, and the steps before and after
-pub record Glides (c0 : Cap) (flash g : List ℕ) (pcc : Cap) (pending : Pending) (ram tags : List ℕ) (steps : ℕ) (g′ : List ℕ) (pcc′ : Cap) (pending′ : Pending) (ram′ tags′ : List ℕ) : Type 0 where
-  pub leads : (caps : List Cap) (cause k n : ℕ) → getD caps 0 null ≡ c0
-      → runFrom (steps + k) n flash (holding g caps pcc pending cause) ram tags ≡ runFrom k (n + steps) flash (holding g′ caps pcc′ pending′ cause) ram′ tags′
+-- so many steps lead from one to the other, whatever the cause, and the steps before and after
+pub record Glides (flash g : List ℕ) (caps : List Cap) (pcc : Cap) (pending : Pending) (ram tags : List ℕ) (steps : ℕ) (g′ : List ℕ) (caps′ : List Cap) (pcc′ : Cap) (pending′ : Pending) (ram′ tags′ : List ℕ) : Type 0 where
+  pub leads : (cause k n : ℕ)
+      → runFrom (steps + k) n flash (holding g caps pcc pending cause) ram tags ≡ runFrom k (n + steps) flash (holding g′ caps′ pcc′ pending′ cause) ram′ tags′

@@ -1,6 +1,8 @@
-// Plain steps one after the other, as far as they come: a run stays here while no capability register but C0 is named.
+// Steps made one after the other by a shorter way, as far as it goes: the whole way makes the others.
 use cap::Cap;
 use cap::narrow;
+use capable::Capable;
+use checks::Named;
 use mem::Offset;
 use perform::Pending;
 use plain::Plain;
@@ -10,9 +12,10 @@ ghost use Prim.Native.Nat.{ℕ, _≤_};
 ghost use Rattle.cap.specs.Narrow.{setOffset};
 ghost use Rattle.glide.specs.Glide.{nextAt, waitingAt, Glides};
 
-// So many steps on: PCC and the pending jump then.
+// So many steps on: the capability registers, PCC and the pending jump then.
 pub struct Glided {
     pub steps: u32,
+    pub caps: [Cap; 32],
     pub pcc: Cap,
     pub pending: Pending,
 }
@@ -37,12 +40,13 @@ fn waiting(slot: bool, pcc: Cap, target: Offset) -> Pending
     Pending::Quiet
 }
 
-fn come_to(steps: u32, pcc: Cap, at: Offset, slot: bool, target: Offset) -> Glided
-    ensures { λ r. ⌜ r ≡ record { steps = steps; pcc = setOffset pcc at; pending = waitingAt slot pcc target } ⌝ }
+fn come_to(steps: u32, caps: [Cap; 32], pcc: Cap, at: Offset, slot: bool, target: Offset) -> Glided
+    ensures { λ r. ⌜ r ≡ record { steps = steps; caps = caps; pcc = setOffset pcc at; pending = waitingAt slot pcc target } ⌝ }
 {
     let pending = waiting(slot, pcc, target);
     Glided {
         steps,
+        caps,
         pcc: narrow::set_offset(pcc, at),
         pending,
     }
@@ -51,16 +55,17 @@ fn come_to(steps: u32, pcc: Cap, at: Offset, slot: bool, target: Offset) -> Glid
 // From no pending jump: PCC keeps all but its offset, since a branch keeps the rest.
 fn slide(
     g: &mut [u64; 32],
+    caps: [Cap; 32],
     pcc: Cap,
-    c0: Cap,
     flash: &[u8],
     ram: &mut [u8],
     tags: &mut [u8],
     budget: u32,
 ) -> Glided
     ensures { λ r. ⌜ r .steps ≤ budget ⌝ }
-    ensures { λ r. ⌜ Glides c0 (now (flash .entry)) (now (g .entry)) pcc Pending.Quiet (now (ram .entry)) (now (tags .entry)) (r .steps) (now (g .exit)) (r .pcc) (r .pending) (now (ram .exit)) (now (tags .exit)) ⌝ }
+    ensures { λ r. ⌜ Glides (now (flash .entry)) (now (g .entry)) caps pcc Pending.Quiet (now (ram .entry)) (now (tags .entry)) (r .steps) (now (g .exit)) (r .caps) (r .pcc) (r .pending) (now (ram .exit)) (now (tags .exit)) ⌝ }
 {
+    let mut cs = caps;
     let mut n: u32 = 0;
     let mut at = pcc.offset;
     let mut slot = false;
@@ -70,15 +75,14 @@ fn slide(
         let fetched = perform::fetch(flash, ram, here);
         let w = perform::word_of(fetched);
         let i = plain::ahead(fetched, slot);
-        let i25 = isa::field_25(w) as usize;
+        let n25 = isa::field_25(w);
+        let i25 = n25 as usize;
         let n20 = isa::field_20(w);
         let i20 = n20 as usize;
         let n15 = isa::field_15(w);
+        let c0 = cs[0];
         let did = plain::plainly(i, n20, n15, g[i25], g[i20], here, c0, flash, ram, tags);
         match did {
-            Plain::Other => {
-                return come_to(n, pcc, at, slot, target);
-            }
             Plain::Sets(rd, value) => {
                 let rd = (rd % 32) as usize;
                 g[rd] = state::kept_zero(rd, value);
@@ -94,29 +98,78 @@ fn slide(
                 slot = true;
                 n = n + 1;
             }
+            Plain::Other => {
+                let i15 = n15 as usize;
+                let i10 = isa::field_10(w) as usize;
+                let k20 = cs[i20];
+                let k15 = cs[i15];
+                let c20 = Named {
+                    cap: k20,
+                    number: n20,
+                };
+                let c15 = Named {
+                    cap: k15,
+                    number: n15,
+                };
+                let also = capable::capably(
+                    i,
+                    n25,
+                    n20,
+                    g[i25],
+                    g[i15],
+                    g[i10],
+                    here,
+                    c20,
+                    c15,
+                    flash,
+                    ram,
+                    tags,
+                );
+                match also {
+                    Capable::Other => {
+                        return come_to(n, cs, pcc, at, slot, target);
+                    }
+                    Capable::Sets(rd, value) => {
+                        let rd = (rd % 32) as usize;
+                        g[rd] = state::kept_zero(rd, value);
+                        at = next_at(slot, at, target);
+                        slot = false;
+                        n = n + 1;
+                    }
+                    Capable::Moves(cd, to) => {
+                        g[0] = 0;
+                        let cd = (cd % 32) as usize;
+                        cs[cd] = narrow::set_offset(k15, to);
+                        at = next_at(slot, at, target);
+                        slot = false;
+                        n = n + 1;
+                    }
+                }
+            }
         }
     }
-    come_to(n, pcc, at, slot, target)
+    come_to(n, cs, pcc, at, slot, target)
 }
 
 // The slot of a jump that another step made is left to the whole step.
 pub fn glide(
     g: &mut [u64; 32],
+    caps: [Cap; 32],
     pcc: Cap,
     pending: Pending,
-    c0: Cap,
     flash: &[u8],
     ram: &mut [u8],
     tags: &mut [u8],
     budget: u32,
 ) -> Glided
     ensures { λ r. ⌜ r .steps ≤ budget ⌝ }
-    ensures { λ r. ⌜ Glides c0 (now (flash .entry)) (now (g .entry)) pcc pending (now (ram .entry)) (now (tags .entry)) (r .steps) (now (g .exit)) (r .pcc) (r .pending) (now (ram .exit)) (now (tags .exit)) ⌝ }
+    ensures { λ r. ⌜ Glides (now (flash .entry)) (now (g .entry)) caps pcc pending (now (ram .entry)) (now (tags .entry)) (r .steps) (now (g .exit)) (r .caps) (r .pcc) (r .pending) (now (ram .exit)) (now (tags .exit)) ⌝ }
 {
     match pending {
-        Pending::Quiet => slide(g, pcc, c0, flash, ram, tags, budget),
+        Pending::Quiet => slide(g, caps, pcc, flash, ram, tags, budget),
         Pending::Jump(_) => Glided {
             steps: 0,
+            caps,
             pcc,
             pending,
         },

@@ -14,7 +14,7 @@ ghost use mathlib.Core.Path.{_≡_};
 ghost use Rattle.checks.specs.Checks.{settle};
 ghost use Rattle.inspect.specs.Inspect.{CauseOpen, sameBool, fieldOf, isEqual, isLess, isLessSigned, compares, pointerOf, get, cGetCause, cSetCause, cToPtr, cCheckPerm, cCheckType, cPtrCmp};
 
-fn field_of(field: Field, c: Cap) -> u64
+pub fn field_of(field: Field, c: Cap) -> u64
     ensures { λ r. ⌜ r ≡ fieldOf field c ⌝ }
 {
     match field {

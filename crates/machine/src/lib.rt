@@ -1,81 +1,9 @@
 // The machine runs: it judges its start, makes its steps, and is its definition for every input.
 use accept::Verdict;
-use perform::Turn;
 use state::Machine;
 use state::Outcome;
 ghost use mathlib.Core.Path.{_≡_};
-ghost use mathlib.Core.List.{List};
-ghost use Prim.Native.Nat.{ℕ};
-ghost use Rattle.state.specs.Steps.{runFrom};
 ghost use Rattle.machine.specs.Run.{runOf};
-
-// As many steps as the budget has, or up to the one that stops; the start is accepted.
-fn go(m: Machine, flash: &[u8], ram: &mut [u8], tags: &mut [u8], budget: u32) -> Outcome
-    ensures { λ r. ⌜ r ≡ runFrom budget 0 (now (flash .entry)) m (now (ram .entry)) (now (tags .entry)) .outcome ⌝ }
-    ensures { λ _. ⌜ now (ram .exit) ≡ runFrom budget 0 (now (flash .entry)) m (now (ram .entry)) (now (tags .entry)) .ram ⌝ }
-    ensures { λ _. ⌜ now (tags .exit) ≡ runFrom budget 0 (now (flash .entry)) m (now (ram .entry)) (now (tags .entry)) .tags ⌝ }
-{
-    let mut g = m.general;
-    let mut cs = m.caps;
-    let mut pcc = m.pcc;
-    let mut pending = m.pending;
-    let mut cause = m.cause;
-    let mut n: u32 = 0;
-    while n < budget {
-        let first = cs[0];
-        let glided = glide::glide(&mut g, pcc, pending, first, flash, ram, tags, budget - n);
-        n = n + glided.steps;
-        pcc = glided.pcc;
-        pending = glided.pending;
-        if n == budget {
-            return state::finished(n, g, cs, pcc, pending, cause);
-        }
-        let fetched = perform::fetch(flash, ram, pcc);
-        let w = perform::word_of(fetched);
-        let i25 = isa::field_25(w) as usize;
-        let i20 = isa::field_20(w) as usize;
-        let i15 = isa::field_15(w) as usize;
-        let i10 = isa::field_10(w) as usize;
-        let k25 = cs[i25];
-        let k20 = cs[i20];
-        let k15 = cs[i15];
-        let k10 = cs[i10];
-        let k0 = cs[0];
-        let o = state::gather(
-            w,
-            g[i25],
-            g[i20],
-            g[i15],
-            g[i10],
-            k25,
-            k20,
-            k15,
-            k10,
-            k0,
-            pcc,
-            cause,
-        );
-        let turn = perform::act(o, perform::is_pending(pending), fetched, flash, ram, tags);
-        match turn {
-            Turn::Stops(f) => {
-                return state::stopped(f, n, g, cs, pcc, pending, cause);
-            }
-            Turn::Next(d) => {
-                let rd = (d.rd % 32) as usize;
-                g[rd] = state::kept_zero(rd, d.value);
-                let cd = (d.cd % 32) as usize;
-                let c = d.cap;
-                cs[cd] = c;
-                let jump = d.jump;
-                pcc = state::next_pcc(pcc, pending);
-                pending = jump;
-                cause = d.cause;
-                n = n + 1;
-            }
-        }
-    }
-    state::finished(n, g, cs, pcc, pending, cause)
-}
 
 // A run: the start is judged first, and a refused one comes back as it came.
 pub fn run(m: Machine, flash: &[u8], ram: &mut [u8], tags: &mut [u8], budget: u32) -> Outcome
@@ -87,7 +15,7 @@ pub fn run(m: Machine, flash: &[u8], ram: &mut [u8], tags: &mut [u8], budget: u3
     let verdict = accept::accept(m.caps, m.pcc, m.pending, first, flash.len(), ram, tags);
     match verdict {
         Verdict::Refused(refusal) => state::placeless(accept::refusal_number(refusal), 0, m),
-        Verdict::Accepted => go(m, flash, ram, tags, budget),
+        Verdict::Accepted => steps::go(m, flash, ram, tags, budget),
     }
 }
 

@@ -74,7 +74,8 @@ fn writes_capability(cause: u16, cd: u8, c: Cap, jump: Pending) -> Turn
     })
 }
 
-fn extend(signed: bool, size: Size, v: u64) -> u64
+// A loaded value, with its top bit carried on where the load is signed.
+pub fn extend(signed: bool, size: Size, v: u64) -> u64
     ensures { λ r. ⌜ r ≡ extended signed size v ⌝ }
 {
     if signed { mem::sign_extend(v, size) } else { v }

@@ -8,6 +8,7 @@ use lib.Dec.{eqb}
 use Rattle.mem.specs.declared.Address.{Address}
 use Rattle.mem.specs.declared.Size.{Size}
 use Rattle.mem.specs.declared.Loaded.{Loaded}
+use Rattle.mem.specs.declared.Stored.{Stored}
 use Rattle.mem.specs.declared.Place.{Place}
 use Rattle.mem.specs.declared.Place.the-variants.{Flash, Ram, Nowhere}
 use Rattle.mem.specs.Number.{bytesIn, toBe}
@@ -17,6 +18,7 @@ use Rattle.cap.specs.declared.Cap.{Cap}
 use Rattle.access.specs.declared.Access.{Access}
 use Rattle.cap.specs.Cap.{LOAD, STORE}
 use Rattle.access.specs.Access.{accessOf}
+use Rattle.checks.specs.declared.Named.{Named}
 use Rattle.checks.specs.declared.Check.{Check}
 use Rattle.checks.specs.declared.Fault.{Fault}
 use Rattle.checks.specs.declared.Effect.{Effect}
@@ -32,14 +34,14 @@ use Rattle.plan.specs.Plan.{planOf}
 use Rattle.perform.specs.declared.Change.{Change}
 use Rattle.perform.specs.declared.Turn.{Turn}
 use Rattle.perform.specs.declared.Fetched.{Fetched}
-use Rattle.perform.specs.Perform.{placeIn, turnOf, ramOf, tagsOf}
-use Rattle.perform.specs.Fetch.{plannedOf}
+use Rattle.perform.specs.Perform.{toGeneral, placeIn, turnOf, ramOf, tagsOf}
+use Rattle.perform.specs.Fetch.{plannedOf, doneTurn}
 use Rattle.plain.specs.declared.Plain.{Plain}
-use Rattle.plain.specs.Plain.{aheadOf, byC0, Reaches, Sees, Means, setsLoaded, setsStored, loadsAt, storesAt, storesRam, storesTags, branchesBy}
+use Rattle.plain.specs.Plain.{aheadOf, Reaches, Does, Untouched, Sees, Means, extendedIn, loadedAt, storedAt, storesRam, storesTags, setsLoaded, setsStored, branchesBy}
 
-planned-at : (r : Access) (misaligned : Fault) (effect : Address → Effect) (a : Address) → r ≡ Access.At a → settle (lies r 0 misaligned effect) ≡ Planned.Does (effect a)
+planned-at : (r : Access) (register : ℕ) (misaligned : Fault) (effect : Address → Effect) (a : Address) → r ≡ Access.At a → settle (lies r register misaligned effect) ≡ Planned.Does (effect a)
 unfolding settle
-planned-at r misaligned effect a q = rw q
+planned-at r register misaligned effect a q = rw q
 
 nowhere : (A : Type 0) (a : Address) → Access.Length ≡ Access.At a → A
 nowhere A a q = let z : _≡_ {A = ℕ} 0 1 = cc in absurd (omega arith)
@@ -48,44 +50,58 @@ passed : (k : Check) (rest : Checked) → k ≡ Check.Passed → finish k rest �
 passed k rest q = rw q (start rest)
 
 -- every check of the access passed
-pub reaches : (permission : ℕ) (pcc c0 : Cap) (rt x size : ℕ) (k : Check) (r : Access) → Through Check.Passed pcc (byC0 c0) permission k → k ≡ Check.Passed → r ≡ accessOf c0 rt x size
-    → Reaches permission pcc c0 rt x size r
-reaches permission pcc c0 rt x size k r t h e = record {
-  passes = λ misaligned effect a q. sym (start _) ∙ sym (t _) ∙ passed k _ h ∙ planned-at (accessOf c0 rt x size) misaligned effect a (sym e ∙ q);
+pub reaches : (permission : ℕ) (pcc : Cap) (cb : Named) (rt x size : ℕ) (k : Check) (r : Access) → Through Check.Passed pcc cb permission k → k ≡ Check.Passed → r ≡ accessOf (cb .cap) rt x size
+    → Reaches permission pcc cb rt x size r
+reaches permission pcc cb rt x size k r t h e = record {
+  passes = λ misaligned effect a q. sym (start _) ∙ sym (t _) ∙ passed k _ h ∙ planned-at (accessOf (cb .cap) rt x size) (cb .number) misaligned effect a (sym e ∙ q);
 }
 
 -- a check failed: the answer says nothing
-pub reaches-not : (permission : ℕ) (pcc c0 : Cap) (rt x size : ℕ) → Reaches permission pcc c0 rt x size Access.Length
-reaches-not permission pcc c0 rt x size = record { passes = λ misaligned effect a q. nowhere _ a q }
+pub reaches-not : (permission : ℕ) (pcc : Cap) (cb : Named) (rt x size : ℕ) → Reaches permission pcc cb rt x size Access.Length
+reaches-not permission pcc cb rt x size = record { passes = λ misaligned effect a q. nowhere _ a q }
+
+module _ (o : Operands) (planned : Planned) (flash ram tags : List ℕ) where
+  -- a load that its checks let pass, and what an answer made of the loaded value may say of it
+  load-value : (P : Loaded → Type 0) (size : Size) (signed : Bool) (a : Address) (rd : ℕ) (l : Loaded) → loadOf flash ram a (bytesIn size) ≡ l → planned ≡ Planned.Does (Effect.Load size signed a rd)
+      → ((v : ℕ) → Does o planned flash ram tags ram tags (toGeneral (o .c0 .cap) (o .cause) rd v) → P (Loaded.Value v)) → P Loaded.Nowhere → P (extendedIn signed size l)
+  unfolding turnOf ramOf tagsOf
+  load-value P size signed a rd (Loaded.Value v) e p goes stays = goes _ (rw (p, e) (refl, (refl, refl)))
+  load-value P size signed a rd Loaded.Nowhere e p goes stays = stays
+
+  pub load-does : (P : Loaded → Type 0) (size : Size) (signed : Bool) (x rd : ℕ) (pcc : Cap) (cb : Named) (rt : ℕ) (lies : Access) → planned ≡ settle (load size signed x pcc rd cb rt) → Reaches LOAD pcc cb rt x (bytesIn size) lies
+      → ((v : ℕ) → Does o planned flash ram tags ram tags (toGeneral (o .c0 .cap) (o .cause) rd v) → P (Loaded.Value v)) → P Loaded.Nowhere → P (loadedAt flash ram signed size lies)
+  unfolding load
+  load-does P size signed x rd pcc cb rt (Access.At a) p r goes stays = load-value P size signed a rd (loadOf flash ram a (bytesIn size)) refl (p ∙ r .passes Fault.Misaligned (λ b. Effect.Load size signed b rd) a refl) goes stays
+  load-does P size signed x rd pcc cb rt Access.Length p r goes stays = stays
+  load-does P size signed x rd pcc cb rt Access.Misaligned p r goes stays = stays
+
+  -- the same of a store, with the RAM and the tags that it leaves
+  store-value : (P : Stored → List ℕ → List ℕ → Type 0) (size : Size) (a : Address) (v : ℕ) (p : Place) → placeIn flash ram a (bytesIn size) ≡ p → planned ≡ Planned.Does (Effect.Store size a v)
+      → ((ram′ tags′ : List ℕ) → Does o planned flash ram tags ram′ tags′ (toGeneral (o .c0 .cap) (o .cause) 0 0) → P Stored.Done ram′ tags′) → P Stored.Flash ram tags → P Stored.Nowhere ram tags
+      → P (answerAt p) (ramAfter p ram (toBe (bytesIn size) v)) (tagsAfter p tags false)
+  unfolding turnOf ramOf tagsOf
+  store-value P size a v (Flash i) e p goes into-flash stays = into-flash
+  store-value P size a v (Ram i) e p goes into-flash stays = goes _ _ (rw (p, e) (refl, (refl, refl)))
+  store-value P size a v Nowhere e p goes into-flash stays = stays
+
+  pub store-does : (P : Stored → List ℕ → List ℕ → Type 0) (size : Size) (x v : ℕ) (pcc : Cap) (cb : Named) (rt : ℕ) (lies : Access) → planned ≡ settle (store size x pcc v cb rt) → Reaches STORE pcc cb rt x (bytesIn size) lies
+      → ((ram′ tags′ : List ℕ) → Does o planned flash ram tags ram′ tags′ (toGeneral (o .c0 .cap) (o .cause) 0 0) → P Stored.Done ram′ tags′) → P Stored.Flash ram tags → P Stored.Nowhere ram tags
+      → P (storedAt flash ram size lies) (storesRam flash ram size v lies) (storesTags flash ram tags size lies)
+  unfolding store
+  store-does P size x v pcc cb rt (Access.At a) p r goes into-flash stays = store-value P size a v (placeIn flash ram a (bytesIn size)) refl (p ∙ r .passes Fault.StoreMisaligned (λ b. Effect.Store size b v) a refl) goes into-flash stays
+  store-does P size x v pcc cb rt Access.Length p r goes into-flash stays = stays
+  store-does P size x v pcc cb rt Access.Misaligned p r goes into-flash stays = stays
+
+  pub load-means : (size : Size) (x rd : ℕ) (pcc : Cap) (cb : Named) (rt : ℕ) (lies : Access) → planned ≡ settle (load size false x pcc rd cb rt) → Reaches LOAD pcc cb rt x (bytesIn size) lies
+      → Means o planned flash ram tags ram tags (setsLoaded rd (loadedAt flash ram false size lies))
+  load-means size x rd pcc cb rt lies p r = load-does (λ l. Means o planned flash ram tags ram tags (setsLoaded rd l)) size false x rd pcc cb rt lies p r (λ v d. d) (refl, refl)
+
+  pub store-means : (size : Size) (x v : ℕ) (pcc : Cap) (cb : Named) (rt : ℕ) (lies : Access) → planned ≡ settle (store size x pcc v cb rt) → Reaches STORE pcc cb rt x (bytesIn size) lies
+      → Means o planned flash ram tags (storesRam flash ram size v lies) (storesTags flash ram tags size lies) (setsStored (storedAt flash ram size lies))
+  store-means size x v pcc cb rt lies p r =
+      store-does (λ s ram′ tags′. Means o planned flash ram tags ram′ tags′ (setsStored s)) size x v pcc cb rt lies p r (λ ram′ tags′ d. d) (refl, refl) (refl, refl)
 
 module _ (o : Operands) (flash ram tags : List ℕ) (x n20 n15 g25 g20 : ℕ) (pcc c0 : Cap) (s : Sees o n20 n15 g25 g20 pcc c0) where
-  load-value : (size : Size) (a : Address) (l : Loaded) → loadOf flash ram a (bytesIn size) ≡ l → settle (load size false x (o .pcc) (o .n20) (o .c0) (o .g25)) ≡ Planned.Does (Effect.Load size false a n20)
-      → Means o (settle (load size false x (o .pcc) (o .n20) (o .c0) (o .g25))) flash ram tags ram tags (setsLoaded n20 l)
-  unfolding turnOf ramOf tagsOf
-  load-value size a (Loaded.Value v) e p = rw (p, e) (refl, (refl, refl))
-  load-value size a Loaded.Nowhere e p = (refl, refl)
-
-  pub load-means : (size : Size) (lies : Access) → Reaches LOAD pcc c0 g25 x (bytesIn size) lies
-      → Means o (settle (load size false x (o .pcc) (o .n20) (o .c0) (o .g25))) flash ram tags ram tags (loadsAt flash ram size n20 lies)
-  unfolding load
-  load-means size (Access.At a) r = load-value size a (loadOf flash ram a (bytesIn size)) refl (rw (s .is-pcc, s .is-n20, s .is-c0, s .is-g25) (r .passes Fault.Misaligned (λ b. Effect.Load size false b n20) a refl))
-  load-means size Access.Length r = (refl, refl)
-  load-means size Access.Misaligned r = (refl, refl)
-
-  store-value : (size : Size) (a : Address) (p : Place) → placeIn flash ram a (bytesIn size) ≡ p → settle (store size x (o .pcc) (o .g20) (o .c0) (o .g25)) ≡ Planned.Does (Effect.Store size a g20)
-      → Means o (settle (store size x (o .pcc) (o .g20) (o .c0) (o .g25))) flash ram tags (ramAfter p ram (toBe (bytesIn size) g20)) (tagsAfter p tags false) (setsStored (answerAt p))
-  unfolding turnOf ramOf tagsOf
-  store-value size a (Flash i) e p = (refl, refl)
-  store-value size a (Ram i) e p = rw (p, e) (refl, (refl, refl))
-  store-value size a Nowhere e p = (refl, refl)
-
-  pub store-means : (size : Size) (lies : Access) → Reaches STORE pcc c0 g25 x (bytesIn size) lies
-      → Means o (settle (store size x (o .pcc) (o .g20) (o .c0) (o .g25))) flash ram tags (storesRam flash ram size g20 lies) (storesTags flash ram tags size lies) (storesAt flash ram size lies)
-  unfolding store
-  store-means size (Access.At a) r = store-value size a (placeIn flash ram a (bytesIn size)) refl (rw (s .is-pcc, s .is-g20, s .is-c0, s .is-g25) (r .passes Fault.StoreMisaligned (λ b. Effect.Store size b g20) a refl))
-  store-means size Access.Length r = (refl, refl)
-  store-means size Access.Misaligned r = (refl, refl)
-
   pub branch-means : (equal taken : Bool) → taken ≡ wanted equal (eqb g25 g20)
       → Means o (settle (branch equal x (o .pcc) (o .g25) (o .g20))) flash ram tags ram tags (branchesBy taken x)
   unfolding branch settle turnOf ramOf tagsOf
@@ -96,20 +112,15 @@ no-turn : (A : Type 0) (f : Fault) (d : Change) → Turn.Stops f ≡ Turn.Next d
 no-turn A f d q = let z : _≡_ {A = ℕ} 0 1 = cc in absurd (omega arith)
 
 -- a jump in a slot has no turn to speak of
-word-means : (o : Operands) (w : ℕ) (flash ram tags ram′ tags′ : List ℕ) (r : Plain) (jumps : Bool)
-    → Means o (settle (planOf o (cond jumps Instr.Reserved (decodeWord w)))) flash ram tags ram′ tags′ r
-    → Means o (cond jumps (Planned.Fails Fault.Pending) (settle (planOf o (decodeWord w)))) flash ram tags ram′ tags′ r
+word-goes : (o : Operands) (w : ℕ) (flash ram tags : List ℕ) (d : Change) (jumps : Bool) → doneTurn o flash ram tags (settle (planOf o (cond jumps Instr.Reserved (decodeWord w)))) ≡ Turn.Next d
+    → settle (planOf o (cond jumps Instr.Reserved (decodeWord w))) ≡ cond jumps (Planned.Fails Fault.Pending) (settle (planOf o (decodeWord w)))
 unfolding planOf settle
-word-means o w flash ram tags ram′ tags′ (Plain.Sets rd v) true e = no-turn _ _ _ (e .0)
-word-means o w flash ram tags ram′ tags′ (Plain.Jumps words) true e = no-turn _ _ _ (e .0)
-word-means o w flash ram tags ram′ tags′ Plain.Other true e = e
-word-means o w flash ram tags ram′ tags′ r false e = e
+word-goes o w flash ram tags d true e = no-turn _ _ _ e
+word-goes o w flash ram tags d false e = refl
 
--- an answer other than Other: the step has an instruction, and it was this one
-pub ahead-means : (o : Operands) (slot : Bool) (fetched : Fetched) (flash ram tags ram′ tags′ : List ℕ) (r : Plain)
-    → Means o (settle (planOf o (aheadOf slot fetched))) flash ram tags ram′ tags′ r → Means o (plannedOf o slot fetched) flash ram tags ram′ tags′ r
+-- a turn that goes on: the step has an instruction, and it was this one
+pub ahead-goes : (o : Operands) (slot : Bool) (fetched : Fetched) (flash ram tags : List ℕ) (d : Change) → doneTurn o flash ram tags (settle (planOf o (aheadOf slot fetched))) ≡ Turn.Next d
+    → settle (planOf o (aheadOf slot fetched)) ≡ plannedOf o slot fetched
 unfolding planOf settle plannedOf
-ahead-means o slot (Fetched.Stops f) flash ram tags ram′ tags′ (Plain.Sets rd v) e = no-turn _ _ _ (e .0)
-ahead-means o slot (Fetched.Stops f) flash ram tags ram′ tags′ (Plain.Jumps words) e = no-turn _ _ _ (e .0)
-ahead-means o slot (Fetched.Stops f) flash ram tags ram′ tags′ Plain.Other e = e
-ahead-means o slot (Fetched.Word w) flash ram tags ram′ tags′ r e = word-means o w flash ram tags ram′ tags′ r (slot && isJumpWord w) e
+ahead-goes o slot (Fetched.Stops f) flash ram tags d e = no-turn _ _ _ e
+ahead-goes o slot (Fetched.Word w) flash ram tags d e = word-goes o w flash ram tags d (slot && isJumpWord w) e

@@ -25,9 +25,10 @@ use Rattle.jump.specs.Jump.{branchTo}
 use Rattle.plan.specs.declared.Operands.{Operands}
 use Rattle.plan.specs.Plan.{planOf}
 use Rattle.perform.specs.declared.Pending.{Pending}
+use Rattle.perform.specs.declared.Change.{Change}
 use Rattle.perform.specs.declared.Turn.{Turn}
 use Rattle.perform.specs.declared.Fetched.{Fetched}
-use Rattle.perform.specs.Perform.{toGeneral, toCapability, placeIn}
+use Rattle.perform.specs.Perform.{toGeneral, toCapability, extended, placeIn}
 use Rattle.perform.specs.Fetch.{doneTurn, doneRam, doneTags}
 use Rattle.plain.specs.declared.Plain.{Plain}
 
@@ -39,29 +40,24 @@ aheadOf slot (Fetched.Word w) = cond (slot && isJumpWord w) Instr.Reserved (deco
 abbrev pub byC0 : Cap → Named
 byC0 c0 = record { number = 0; cap = c0 }
 
--- where an access through C0 lies, only if every check of it passes
-pub record Reaches (permission : ℕ) (pcc c0 : Cap) (rt immediate size : ℕ) (r : Access) : Type 0 where
+-- where an access through a capability lies, only if every check of it passes
+pub record Reaches (permission : ℕ) (pcc : Cap) (cb : Named) (rt immediate size : ℕ) (r : Access) : Type 0 where
   pub passes : (misaligned : Fault) (effect : Address → Effect) (a : Address) → r ≡ Access.At a
-      → settle (opened pcc 0 (tagged (byC0 c0) (unsealed (byC0 c0) (granted permission (byC0 c0) (lies (accessOf c0 rt immediate size) 0 misaligned effect))))) ≡ Planned.Does (effect a)
+      → settle (opened pcc (cb .number) (tagged cb (unsealed cb (granted permission cb (lies (accessOf (cb .cap) rt immediate size) (cb .number) misaligned effect))))) ≡ Planned.Does (effect a)
 
-abbrev pub setsLoaded : ℕ → Loaded → Plain
-setsLoaded rd (Loaded.Value v) = Plain.Sets rd v
-setsLoaded rd Loaded.Nowhere = Plain.Other
+abbrev pub extendedIn : Bool → Size → Loaded → Loaded
+extendedIn signed size (Loaded.Value v) = Loaded.Value (extended signed size v)
+extendedIn signed size Loaded.Nowhere = Loaded.Nowhere
 
-abbrev pub setsStored : Stored → Plain
-setsStored Stored.Done = Plain.Sets 0 0
-setsStored Stored.Flash = Plain.Other
-setsStored Stored.Nowhere = Plain.Other
+abbrev pub loadedAt : List ℕ → List ℕ → Bool → Size → Access → Loaded
+loadedAt flash ram signed size (Access.At a) = extendedIn signed size (loadOf flash ram a (bytesIn size))
+loadedAt flash ram signed size Access.Length = Loaded.Nowhere
+loadedAt flash ram signed size Access.Misaligned = Loaded.Nowhere
 
-abbrev pub loadsAt : List ℕ → List ℕ → Size → ℕ → Access → Plain
-loadsAt flash ram size rd (Access.At a) = setsLoaded rd (loadOf flash ram a (bytesIn size))
-loadsAt flash ram size rd Access.Length = Plain.Other
-loadsAt flash ram size rd Access.Misaligned = Plain.Other
-
-abbrev pub storesAt : List ℕ → List ℕ → Size → Access → Plain
-storesAt flash ram size (Access.At a) = setsStored (answerAt (placeIn flash ram a (bytesIn size)))
-storesAt flash ram size Access.Length = Plain.Other
-storesAt flash ram size Access.Misaligned = Plain.Other
+abbrev pub storedAt : List ℕ → List ℕ → Size → Access → Stored
+storedAt flash ram size (Access.At a) = answerAt (placeIn flash ram a (bytesIn size))
+storedAt flash ram size Access.Length = Stored.Nowhere
+storedAt flash ram size Access.Misaligned = Stored.Nowhere
 
 abbrev pub storesRam : List ℕ → List ℕ → Size → ℕ → Access → List ℕ
 storesRam flash ram size v (Access.At a) = ramAfter (placeIn flash ram a (bytesIn size)) ram (toBe (bytesIn size) v)
@@ -72,6 +68,15 @@ abbrev pub storesTags : List ℕ → List ℕ → List ℕ → Size → Access �
 storesTags flash ram tags size (Access.At a) = tagsAfter (placeIn flash ram a (bytesIn size)) tags false
 storesTags flash ram tags size Access.Length = tags
 storesTags flash ram tags size Access.Misaligned = tags
+
+abbrev pub setsLoaded : ℕ → Loaded → Plain
+setsLoaded rd (Loaded.Value v) = Plain.Sets rd v
+setsLoaded rd Loaded.Nowhere = Plain.Other
+
+abbrev pub setsStored : Stored → Plain
+setsStored Stored.Done = Plain.Sets 0 0
+setsStored Stored.Flash = Plain.Other
+setsStored Stored.Nowhere = Plain.Other
 
 abbrev pub branchesBy : Bool → ℕ → Plain
 branchesBy taken words = cond taken (Plain.Jumps words) (Plain.Sets 0 0)
@@ -85,13 +90,21 @@ pub record Sees (o : Operands) (n20 n15 g25 g20 : ℕ) (pcc c0 : Cap) : Type 0 w
   pub is-pcc : o .pcc ≡ pcc
   pub is-c0 : o .c0 ≡ byC0 c0
 
--- an answer says what the planned step does, to its registers and to RAM and tags; Other says that nothing was done
+-- the planned step goes on with this change, and leaves this RAM and these tags
+abbrev pub Does : Operands → Planned → List ℕ → List ℕ → List ℕ → List ℕ → List ℕ → Change → Type 0
+Does o planned flash ram tags ram′ tags′ d =
+    (doneTurn o flash ram tags planned ≡ Turn.Next d) × ((ram′ ≡ doneRam flash ram planned) × (tags′ ≡ doneTags flash ram tags planned))
+
+-- nothing was done
+abbrev pub Untouched : List ℕ → List ℕ → List ℕ → List ℕ → Type 0
+Untouched ram tags ram′ tags′ = (ram′ ≡ ram) × (tags′ ≡ tags)
+
+-- an answer says what the planned step does
 abbrev pub Means : Operands → Planned → List ℕ → List ℕ → List ℕ → List ℕ → List ℕ → Plain → Type 0
-Means o planned flash ram tags ram′ tags′ (Plain.Sets rd v) =
-    (doneTurn o flash ram tags planned ≡ Turn.Next (toGeneral (o .c0 .cap) (o .cause) rd v)) × ((ram′ ≡ doneRam flash ram planned) × (tags′ ≡ doneTags flash ram tags planned))
+Means o planned flash ram tags ram′ tags′ (Plain.Sets rd v) = Does o planned flash ram tags ram′ tags′ (toGeneral (o .c0 .cap) (o .cause) rd v)
 Means o planned flash ram tags ram′ tags′ (Plain.Jumps words) =
-    (doneTurn o flash ram tags planned ≡ Turn.Next (toCapability (o .cause) 0 (o .c0 .cap) (Pending.Jump (branchTo (o .pcc) words)))) × ((ram′ ≡ doneRam flash ram planned) × (tags′ ≡ doneTags flash ram tags planned))
-Means o planned flash ram tags ram′ tags′ Plain.Other = (ram′ ≡ ram) × (tags′ ≡ tags)
+    Does o planned flash ram tags ram′ tags′ (toCapability (o .cause) 0 (o .c0 .cap) (Pending.Jump (branchTo (o .pcc) words)))
+Means o planned flash ram tags ram′ tags′ Plain.Other = Untouched ram tags ram′ tags′
 
 abbrev pub Plainly : Instr → ℕ → ℕ → ℕ → ℕ → Cap → Cap → List ℕ → List ℕ → List ℕ → List ℕ → List ℕ → Plain → Type 0
 Plainly i n20 n15 g25 g20 pcc c0 flash ram tags ram′ tags′ r =

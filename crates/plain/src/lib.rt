@@ -11,7 +11,7 @@ use perform::Fetched;
 ghost use mathlib.Core.Path.{_≡_};
 ghost use mathlib.Core.Bool.{Bool};
 ghost use Rattle.mem.specs.Number.{bytesIn};
-ghost use Rattle.plain.specs.Plain.{aheadOf, Reaches, setsLoaded, setsStored, loadsAt, storesAt, storesRam, storesTags, branchesBy, Plainly};
+ghost use Rattle.plain.specs.Plain.{aheadOf, Reaches, extendedIn, loadedAt, storedAt, storesRam, storesTags, setsLoaded, setsStored, branchesBy, Plainly};
 
 // What such an instruction writes; Other for any other, and where it would stop: then nothing was done.
 pub enum Plain {
@@ -35,15 +35,53 @@ pub fn ahead(fetched: Fetched, slot: bool) -> Instr
     }
 }
 
-// Where an access through C0 lies, if every check of it passes.
-fn reached(permission: u32, size: Size, immediate: u64, pcc: Cap, c0: Cap, rt: u64) -> Access
-    ensures { λ r. ⌜ Reaches permission pcc c0 rt immediate (bytesIn size) r ⌝ }
+// Where an access through a capability lies, if every check of it passes.
+pub fn reached(permission: u32, size: Size, immediate: u64, pcc: Cap, cb: Named, rt: u64) -> Access
+    ensures { λ r. ⌜ Reaches permission pcc cb rt immediate (bytesIn size) r ⌝ }
 {
-    let cb = Named { number: 0, cap: c0 };
     let k = transfer::through(Check::Passed, pcc, cb, permission);
     match k {
-        Check::Passed => access::test(c0, rt, immediate, size),
+        Check::Passed => access::test(cb.cap, rt, immediate, size),
         Check::Failed(_) => Access::Length,
+    }
+}
+
+fn extended(signed: bool, size: Size, loaded: Loaded) -> Loaded
+    ensures { λ r. ⌜ r ≡ extendedIn signed size loaded ⌝ }
+{
+    match loaded {
+        Loaded::Value(v) => Loaded::Value(perform::extend(signed, size, v)),
+        Loaded::Nowhere => Loaded::Nowhere,
+    }
+}
+
+// What a load puts into its register.
+pub fn loaded<'a>(lies: Access, size: Size, signed: bool, flash: &'a [u8], ram: &'a [u8]) -> Loaded
+    ensures { λ r. ⌜ r ≡ loadedAt (now (flash .entry)) (now (ram .entry)) signed size lies ⌝ }
+{
+    match lies {
+        Access::At(at) => extended(signed, size, mem::load(flash, ram, at, size)),
+        Access::Length => Loaded::Nowhere,
+        Access::Misaligned => Loaded::Nowhere,
+    }
+}
+
+pub fn stored(
+    lies: Access,
+    size: Size,
+    value: u64,
+    flash: &[u8],
+    ram: &mut [u8],
+    tags: &mut [u8],
+) -> Stored
+    ensures { λ r. ⌜ r ≡ storedAt (now (flash .entry)) (now (ram .entry)) size lies ⌝ }
+    ensures { λ _. ⌜ now (ram .exit) ≡ storesRam (now (flash .entry)) (now (ram .entry)) size value lies ⌝ }
+    ensures { λ _. ⌜ now (tags .exit) ≡ storesTags (now (flash .entry)) (now (ram .entry)) (now (tags .entry)) size lies ⌝ }
+{
+    match lies {
+        Access::At(at) => mem::store(flash.len(), ram, tags, at, size, value),
+        Access::Length => Stored::Nowhere,
+        Access::Misaligned => Stored::Nowhere,
     }
 }
 
@@ -63,35 +101,6 @@ fn sets_stored(stored: Stored) -> Plain
         Stored::Done => Plain::Sets(0, 0),
         Stored::Flash => Plain::Other,
         Stored::Nowhere => Plain::Other,
-    }
-}
-
-fn loads<'a>(lies: Access, size: Size, rd: u8, flash: &'a [u8], ram: &'a [u8]) -> Plain
-    ensures { λ r. ⌜ r ≡ loadsAt (now (flash .entry)) (now (ram .entry)) size rd lies ⌝ }
-{
-    match lies {
-        Access::At(at) => sets_loaded(rd, mem::load(flash, ram, at, size)),
-        Access::Length => Plain::Other,
-        Access::Misaligned => Plain::Other,
-    }
-}
-
-fn stores(
-    lies: Access,
-    size: Size,
-    value: u64,
-    flash: &[u8],
-    ram: &mut [u8],
-    tags: &mut [u8],
-) -> Plain
-    ensures { λ r. ⌜ r ≡ storesAt (now (flash .entry)) (now (ram .entry)) size lies ⌝ }
-    ensures { λ _. ⌜ now (ram .exit) ≡ storesRam (now (flash .entry)) (now (ram .entry)) size value lies ⌝ }
-    ensures { λ _. ⌜ now (tags .exit) ≡ storesTags (now (flash .entry)) (now (ram .entry)) (now (tags .entry)) size lies ⌝ }
-{
-    match lies {
-        Access::At(at) => sets_stored(mem::store(flash.len(), ram, tags, at, size, value)),
-        Access::Length => Plain::Other,
-        Access::Misaligned => Plain::Other,
     }
 }
 
@@ -126,12 +135,14 @@ pub fn plainly(
         Instr::Lui(x) => Plain::Sets(n20, x),
         Instr::Branch(equal, x) => branches(jump::is_wanted(equal, g25 == g20), x),
         Instr::LoadByC0(size, x) => {
-            let at = reached(cap::LOAD, size, x, pcc, c0, g25);
-            loads(at, size, n20, flash, ram)
+            let cb = Named { cap: c0, number: 0 };
+            let at = reached(cap::LOAD, size, x, pcc, cb, g25);
+            sets_loaded(n20, loaded(at, size, false, flash, ram))
         }
         Instr::StoreByC0(size, x) => {
-            let at = reached(cap::STORE, size, x, pcc, c0, g25);
-            stores(at, size, g20, flash, ram, tags)
+            let cb = Named { cap: c0, number: 0 };
+            let at = reached(cap::STORE, size, x, pcc, cb, g25);
+            sets_stored(stored(at, size, g20, flash, ram, tags))
         }
         _ => Plain::Other,
     }

@@ -30,13 +30,14 @@ returns-5 c = rw (c .before .before .before .i4 .given .1, c .branches .ensures)
 
 returns-6 : tie.Need-returns-6
 unfolding planOf
-returns-6 c = rw (c .before .before .before .before .i5 .given .1, c .loads .ensures) (λ o s. load-means o _ _ _ _ _ _ _ _ _ _ s _ _ (c .before .before .reached .ensures))
+returns-6 c = rw (c .before .before .before .before .before .i5 .given .1, c .sets-loaded .ensures, c .before .loaded .ensures)
+    (λ o s. load-means o _ _ _ _ _ _ _ _ _ _ _ (rw (s .is-pcc, s .is-n20, s .is-c0, s .is-g25)) (c .before .before .before .reached .ensures))
 
 returns-7 : tie.Need-returns-7
 unfolding planOf
-returns-7 c = let k = c .before .before .before .before in
-    rw (k .before .before .before .before .before .i6 .given .1, k .stores .ensures .0, k .stores .ensures .1 .0, k .stores .ensures .1 .1)
-    (λ o s. store-means o _ _ _ _ _ _ _ _ _ _ s _ _ (k .before .before .before .reached2 .ensures))
+returns-7 c = let k = c .before .before .before .before .before in
+    rw (k .before .before .before .before .before .i6 .given .1, c .sets-stored .ensures, k .stored .ensures .0, k .stored .ensures .1 .0, k .stored .ensures .1 .1)
+    (λ o s. store-means o _ _ _ _ _ _ _ _ _ _ _ (rw (s .is-pcc, s .is-g20, s .is-c0, s .is-g25)) (k .before .before .before .reached2 .ensures))
 
 pub plainly-spec : {M : Type 1} → statement M
 plainly-spec =
@@ -51,9 +52,9 @@ plainly-spec =
     (λ c. search needs)
     asks asks
     (λ c. search needs)
-    asks asks
+    asks asks asks
     (λ c. search needs)
-    asks asks
+    asks asks asks
     returns
     returns-2
     returns-3

@@ -1,12 +1,11 @@
 use Rattle.mem.proofs.Calls.{asks}
 use mathlib.Core.Path.{refl}
 use borrow.Author.Needs.{needs}
-use Rattle.plain.proofs.stores.Statement.{statement}
-use Rattle.plain.proofs.stores.Tie as tie
+use Rattle.plain.proofs.stored.Statement.{statement}
+use Rattle.plain.proofs.stored.Tie as tie
 
 returns : tie.Need-returns
-returns c = let s = c .before .before .before .before .before in
-    rw (s .before .before .before .before .lies .given .1, ← s .store .ensures .0) (c .sets-stored .ensures, (s .store .ensures .1 .0, s .store .ensures .1 .1))
+returns c = let s = c .before .before .before .before in rw (s .before .before .before .before .lies .given .1) (s .store .ensures .0, (s .store .ensures .1 .0, s .store .ensures .1 .1))
 
 returns-2 : tie.Need-returns-2
 returns-2 c = rw (c .enum-told .given .1) (refl, (refl, refl))
@@ -14,12 +13,12 @@ returns-2 c = rw (c .enum-told .given .1) (refl, (refl, refl))
 returns-3 : tie.Need-returns-3
 returns-3 c = rw (c .enum-told2 .given .1) (refl, (refl, refl))
 
-pub stores-spec : {M : Type 1} → statement M
-stores-spec =
+pub stored-spec : {M : Type 1} → statement M
+stored-spec =
     tie.close
     (tie.spec
     (λ c. search needs)
-    asks asks
+    asks
     (λ c. search needs)
     (λ c. search needs)
     (λ c. search needs)

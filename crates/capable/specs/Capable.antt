@@ -1,0 +1,62 @@
+-- Instructions that look at capability registers: what their step writes is what the whole step's definition says.
+use Prim.Native.Nat.{ℕ}
+use mathlib.Core.Path.{_≡_}
+use mathlib.Core.Bool.{Bool, cond, not, _&&_}
+use mathlib.Core.List.{List}
+use Rattle.mem.specs.declared.Offset.{Offset}
+use Rattle.mem.specs.declared.Loaded.{Loaded}
+use Rattle.mem.specs.declared.Stored.{Stored}
+use Rattle.cap.specs.declared.Cap.{Cap}
+use Rattle.cap.specs.Cap.{registerOpen}
+use Rattle.cap.specs.Narrow.{setOffset}
+use Rattle.isa.specs.declared.Instr.{Instr}
+use Rattle.checks.specs.declared.Named.{Named}
+use Rattle.checks.specs.declared.Planned.{Planned}
+use Rattle.checks.specs.Checks.{settle}
+use Rattle.plan.specs.declared.Operands.{Operands}
+use Rattle.plan.specs.Plan.{planOf}
+use Rattle.perform.specs.declared.Pending.{Pending}
+use Rattle.perform.specs.Perform.{toGeneral, toCapability}
+use Rattle.plain.specs.Plain.{Does, Untouched}
+use Rattle.capable.specs.declared.Capable.{Capable}
+
+abbrev pub putsLoaded : ℕ → Loaded → Capable
+putsLoaded rd (Loaded.Value v) = Capable.Sets rd v
+putsLoaded rd Loaded.Nowhere = Capable.Other
+
+abbrev pub putsStored : Stored → Capable
+putsStored Stored.Done = Capable.Sets 0 0
+putsStored Stored.Flash = Capable.Other
+putsStored Stored.Nowhere = Capable.Other
+
+abbrev pub setsWhere : Bool → ℕ → ℕ → Capable
+setsWhere passes rd v = cond passes (Capable.Sets rd v) Capable.Other
+
+abbrev pub movesWhere : Bool → ℕ → Offset → Capable
+movesWhere passes cd to = cond passes (Capable.Moves cd to) Capable.Other
+
+-- the checks of CSetOffset and of CIncOffset
+abbrev pub movable : ℕ → ℕ → Named → Bool
+movable perms cd cb = registerOpen perms cd && (registerOpen perms (cb .number) && not (cb .cap .tag && cb .cap .sealed))
+
+-- operands with these parts, whatever their others
+pub record Shows (o : Operands) (n25 n20 g25 g15 g10 : ℕ) (pcc : Cap) (c20 c15 : Named) : Type 0 where
+  pub is-n25 : o .n25 ≡ n25
+  pub is-n20 : o .n20 ≡ n20
+  pub is-g25 : o .g25 ≡ g25
+  pub is-g15 : o .g15 ≡ g15
+  pub is-g10 : o .g10 ≡ g10
+  pub is-pcc : o .pcc ≡ pcc
+  pub is-c20 : o .c20 ≡ c20
+  pub is-c15 : o .c15 ≡ c15
+
+-- an answer says what the planned step does
+abbrev pub Amounts : Operands → Planned → List ℕ → List ℕ → List ℕ → List ℕ → List ℕ → Capable → Type 0
+Amounts o planned flash ram tags ram′ tags′ (Capable.Sets rd v) = Does o planned flash ram tags ram′ tags′ (toGeneral (o .c0 .cap) (o .cause) rd v)
+Amounts o planned flash ram tags ram′ tags′ (Capable.Moves cd to) =
+    Does o planned flash ram tags ram′ tags′ (toCapability (o .cause) cd (setOffset (o .c15 .cap) to) Pending.Quiet)
+Amounts o planned flash ram tags ram′ tags′ Capable.Other = Untouched ram tags ram′ tags′
+
+abbrev pub Capably : Instr → ℕ → ℕ → ℕ → ℕ → ℕ → Cap → Named → Named → List ℕ → List ℕ → List ℕ → List ℕ → List ℕ → Capable → Type 0
+Capably i n25 n20 g25 g15 g10 pcc c20 c15 flash ram tags ram′ tags′ r =
+    (o : Operands) → Shows o n25 n20 g25 g15 g10 pcc c20 c15 → Amounts o (settle (planOf o i)) flash ram tags ram′ tags′ r
