@@ -102,6 +102,20 @@ fn capability_loop() -> Vec<u32> {
     ]
 }
 
+/// Capabilities derived, stored and loaded: CSetLen and CAndPerm of C3, CSC of C3 and CLC of it through C2.
+fn deriving_loop() -> Vec<u32> {
+    vec![
+        immediate(15, 0, 9, 0x10),
+        immediate(25, 8, 8, 1),
+        capability(13, 4, 3, 8),
+        capability(10, 5, 3, 8),
+        transfer(62, 3, 2, 9, 0),
+        transfer(54, 6, 2, 9, 0),
+        immediate(5, 8, 0, -6),
+        0,
+    ]
+}
+
 /// The best of some tries, in seconds.
 fn best(mut once: impl FnMut()) -> f64 {
     let times = (0..TRIES).map(|_| {
@@ -143,6 +157,7 @@ fn before_the_first_step(ram: usize) {
 fn main() {
     compare("plain loop", &plain_loop());
     compare("capability loop", &capability_loop());
+    compare("deriving loop", &deriving_loop());
     for ram in [0, 32768, 65536] {
         before_the_first_step(ram);
     }
