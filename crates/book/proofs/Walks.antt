@@ -43,33 +43,45 @@ pub step-body : (book : List ℕ) (ram at kind key b n : ℕ) (r : Step) (entry 
 unfolding stepAt afterHead
 step-body book ram at kind key b n r entry eh ee er = let z : b + n - b ≡ n = omega arith in er ∙ rw (← eh, ee, z)
 
--- where a record that goes on ends
-ordered-more : (rising : Bool) (end x : ℕ) (entry e : Entry) → cond rising (Step.More end entry) (Step.Refused Refusal.Order) ≡ Step.More x e → end ≡ x
-ordered-more true end x entry e h = cc
+-- a record that goes on: where it ends, and what its body says
+ordered-more : (rising : Bool) (end x : ℕ) (entry e : Entry) → cond rising (Step.More end entry) (Step.Refused Refusal.Order) ≡ Step.More x e → (end ≡ x) × (entry ≡ e)
+ordered-more true end x entry e h = (cc, cc)
 ordered-more false end x entry e h = let z : _≡_ {A = ℕ} 0 1 = cc in absurd (omega arith)
 
-entry-more : (entry : Entry) (end kind key x : ℕ) (e : Entry) → afterEntry end entry kind key ≡ Step.More x e → end ≡ x
+entry-more : (entry : Entry) (end kind key x : ℕ) (e : Entry) → afterEntry end entry kind key ≡ Step.More x e → (end ≡ x) × (entry ≡ e)
 unfolding afterEntry
 entry-more (Entry.Refused refusal) end kind key x e h = let z : _≡_ {A = ℕ} 0 1 = cc in absurd (omega arith)
 entry-more (Entry.Capability number c) end kind key x e h = ordered-more (inOrder kind key 1 number) end x (Entry.Capability number c) e h
 entry-more (Entry.General number v) end kind key x e h = ordered-more (inOrder kind key 2 number) end x (Entry.General number v) e h
 entry-more (Entry.Line address tag) end kind key x e h = ordered-more (inOrder kind key 3 address) end x (Entry.Line address tag) e h
 
-head-more : (head : Head) (book : List ℕ) (ram at kind key x : ℕ) (e : Entry) → head ≡ headAt book at → afterHead book ram head kind key ≡ Step.More x e → (at < x) × (x ≤ length book)
+pub record GoesOn (book : List ℕ) (ram at x : ℕ) (e : Entry) : Type 0 where
+  pub start : ℕ
+  pub bytes : ℕ
+  pub body : Head.Body start bytes ≡ headAt book at
+  pub ends : start + bytes ≡ x
+  pub says : entryOf (take bytes (drop start book)) ram ≡ e
+
+head-more : (head : Head) (book : List ℕ) (ram at kind key x : ℕ) (e : Entry) → head ≡ headAt book at → afterHead book ram head kind key ≡ Step.More x e → GoesOn book ram at x e
 unfolding afterHead
 head-more Head.End book ram at kind key x e q h = let z : _≡_ {A = ℕ} 0 1 = cc in absurd (omega arith)
 head-more Head.Cut book ram at kind key x e q h = let z : _≡_ {A = ℕ} 0 1 = cc in absurd (omega arith)
 head-more (Head.Body b n) book ram at kind key x e q h =
-    let f = body-fits book at b n q in
     let g = entry-more (entryOf (take n (drop b book)) ram) (b + n) kind key x e h in
-    omega (arith, f .0, f .1, f .2, g)
+    record { start = b; bytes = n; body = q; ends = g .0; says = g .1 }
+
+pub more-goes-on : (book : List ℕ) (ram at kind key x : ℕ) (e : Entry) → Step.More x e ≡ stepAt book ram at kind key → GoesOn book ram at x e
+unfolding stepAt
+more-goes-on book ram at kind key x e q = head-more (headAt book at) book ram at kind key x e refl (sym q)
 
 pub more-fits : (book : List ℕ) (ram at kind key x : ℕ) (e : Entry) → Step.More x e ≡ stepAt book ram at kind key → (at < x) × (x ≤ length book)
-unfolding stepAt
-more-fits book ram at kind key x e q = head-more (headAt book at) book ram at kind key x e refl (sym q)
+more-fits book ram at kind key x e q =
+    let g = more-goes-on book ram at kind key x e q in
+    let f = body-fits book at (g .start) (g .bytes) (g .body) in
+    omega (arith, f .0, f .1, f .2, g .ends)
 
 -- at the end of the book nothing is left
-step-end : (book : List ℕ) (ram at kind key : ℕ) → length book ≤ at → stepAt book ram at kind key ≡ Step.Done
+pub step-end : (book : List ℕ) (ram at kind key : ℕ) → length book ≤ at → stepAt book ram at kind key ≡ Step.Done
 unfolding stepAt headAt afterHead
 step-end book ram at kind key h = rw (le-leb (length book) at h)
 
