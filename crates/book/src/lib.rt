@@ -1,4 +1,4 @@
-// A start book, walked from record to record: the first that is faulty decides (01, "The start book").
+// A start book, walked by a reader from record to record: the first that is faulty decides (01, "The start book").
 use record::Entry;
 use record::Head;
 use record::Refusal;
@@ -79,7 +79,7 @@ fn after_entry(end: usize, entry: Entry, kind: u8, key: u64) -> Step
 pub fn step_at(book: &[u8], ram: usize, at: usize, kind: u8, key: u64) -> Step
     ensures { λ r. ⌜ r ≡ stepAt (now (book .entry)) ram at kind key ⌝ }
 {
-    let head = record::head_at(book, at);
+    let head = reader::record_at(book, at);
     match head {
         Head::End => Step::Done,
         Head::Cut => Step::Refused(Refusal::Cut),

@@ -10,20 +10,20 @@ use Rattle.book.proofs.step_at.Tie as tie
 
 returns : tie.Need-returns
 unfolding stepAt afterHead
-returns c = rw (← sym (c .enum-told .given .1) ∙ c .before .before .head-at .ensures)
+returns c = rw (← sym (c .enum-told .given .1) ∙ c .before .before .record-at .ensures)
 
 returns-2 : tie.Need-returns-2
 unfolding stepAt afterHead
-returns-2 c = rw (← sym (c .enum-told2 .given .1) ∙ c .before .before .head-at .ensures)
+returns-2 c = rw (← sym (c .enum-told2 .given .1) ∙ c .before .before .record-at .ensures)
 
 add-end : tie.Need-add-end
-add-end c = omega (arith, body-fits _ _ _ _ (sym (c .before .head .given .1) ∙ c .before .before .before .head-at .ensures) .1)
+add-end c = omega (arith, body-fits _ _ _ _ (sym (c .before .head .given .1) ∙ c .before .before .before .record-at .ensures) .1)
 
 part-entry-in-end : tie.Need-part-entry-in-end
-part-entry-in-end c = omega (arith, body-fits _ _ _ _ (sym (c .before .head .given .1) ∙ c .before .before .before .head-at .ensures) .1)
+part-entry-in-end c = omega (arith, body-fits _ _ _ _ (sym (c .before .head .given .1) ∙ c .before .before .before .record-at .ensures) .1)
 
 returns-3 : tie.Need-returns-3
-returns-3 c = step-body _ _ _ _ _ _ _ _ _ (sym (c .before .before .before .before .head .given .1) ∙ c .before .before .before .before .before .before .head-at .ensures) (c .before .entry-in .ensures) (c .after-entry .ensures)
+returns-3 c = step-body _ _ _ _ _ _ _ _ _ (sym (c .before .before .before .before .head .given .1) ∙ c .before .before .before .before .before .before .record-at .ensures) (c .before .entry-in .ensures) (c .after-entry .ensures)
 
 pub step-at-spec : {M : Type 1} → statement M
 step-at-spec =
