@@ -11,10 +11,10 @@ use Rattle.mem.proofs.Stores.{put-part}
 use Rattle.state.specs.declared.Machine.{Machine}
 use Rattle.record.specs.declared.Refusal.{Refusal}
 use Rattle.record.specs.declared.Entry.{Entry}
-use Rattle.record.proofs.Laws.{line-fits}
+use Rattle.record.proofs.Laws.{Fits, entry-fits}
 use Rattle.book.specs.declared.Step.{Step}
 use Rattle.book.specs.Book.{kindOf, keyOf, stepAt}
-use Rattle.book.proofs.Walks.{GoesOn, more-goes-on, more-fits, step-end}
+use Rattle.book.proofs.Walks.{more-goes-on, more-fits, step-end}
 use Rattle.enter.specs.Enter.{Start, zeroMachine, machineWith, ramWith, tagsWith, entered, enterAll, enterBook, bare, LineIsThere}
 
 -- cleared from the front to the end
@@ -34,19 +34,18 @@ copied book ram ys end at h k l e =
     put-part ram at 32 ys (take 32 (drop (end - 32) book)) l z q
 
 -- a record of the walk that is a line has its bytes and its place
-line-there : (e : Entry) (book : List ℕ) (ram at x : ℕ) → x ≤ length book → GoesOn book ram at x e → LineIsThere book x e ram
-line-there (Entry.Capability number c) book ram at x h g = tt
-line-there (Entry.General number value) book ram at x h g = tt
-line-there (Entry.Line address tag) book ram at x h g =
-    let f = line-fits (take (g .bytes) (drop (g .start) book)) ram address tag (g .says) in
-    let m = length-take (g .bytes) (drop (g .start) book) in
-    (omega (arith, f .bytes, m, g .ends), h, f .above, f .room)
-line-there (Entry.Refused refusal) book ram at x h g = tt
+line-there : (e : Entry) (book : List ℕ) (ram start bytes x : ℕ) → start + bytes ≡ x → x ≤ length book → Fits (take bytes (drop start book)) ram e → LineIsThere book x e ram
+line-there (Entry.Capability number c) book ram start bytes x z h f = tt
+line-there (Entry.General number value) book ram start bytes x z h f = tt
+line-there (Entry.Line address tag) book ram start bytes x z h f = (omega (arith, f .bytes, length-take bytes (drop start book)), h, f .above, f .room)
+line-there (Entry.Refused refusal) book ram start bytes x z h f = tt
 
 pub there : (book : List ℕ) (ram r at kind key x : ℕ) (e : Entry) → r ≡ ram → Step.More x e ≡ stepAt book ram at kind key → LineIsThere book x e r
 there book ram r at kind key x e z q =
-    let l = line-there e book ram at x (more-fits book ram at kind key x e q .1) (more-goes-on book ram at kind key x e q) in
-    subst (λ (n : ℕ). LineIsThere book x e n) (sym z) l
+    let g = more-goes-on book ram at kind key x e q in
+    let body = take (g .bytes) (drop (g .start) book) in
+    let f = subst (λ (y : Entry). Fits body ram y) (g .says) (entry-fits body ram) in
+    subst (λ (n : ℕ). LineIsThere book x e n) (sym z) (line-there e book ram (g .start) (g .bytes) x (g .ends) (more-fits book ram at kind key x e q .1) f)
 
 pub is-line : (book : List ℕ) (end : ℕ) (e e′ : Entry) (ram : ℕ) → e ≡ e′ → LineIsThere book end e ram → LineIsThere book end e′ ram
 is-line book end e e′ ram q h = subst (λ (x : Entry). LineIsThere book end x ram) q h

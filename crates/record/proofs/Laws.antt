@@ -1,4 +1,4 @@
--- The laws of a record's head and of a line's address: one for each answer. Assumes nothing.
+-- The laws of a record's head and of a line's address, one for each answer, and of an entry that is a line. Assumes nothing.
 use Prim.Native.Nat.{ℕ, _+_, _-_, _%_, _^_, _<_, _≤_}
 use mathlib.Core.Path.{_≡_, refl, sym}
 use mathlib.Core.Bool.{Bool, true, false, cond, _&&_}
@@ -9,13 +9,11 @@ use lib.Dec.{eqb, leb, ltb}
 use lib.ListN.{length, take, drop}
 use Rattle.mem.specs.Number.{be}
 use Rattle.mem.specs.Place.{RAM-BASE}
-use Rattle.cap.specs.declared.Cap.{Cap}
 use Rattle.line.specs.Line.{capIn}
 use Rattle.accept.specs.Accept.{topFits, loadedFits}
-use Rattle.record.specs.declared.Refusal.{Refusal}
 use Rattle.record.specs.declared.Head.{Head}
 use Rattle.record.specs.declared.Entry.{Entry}
-use Rattle.record.specs.Record.{byte, number, bodyAt, headAt, refused, generalOf, capOf, capabilityOf, isLine, lineOf, entryOf}
+use Rattle.record.specs.Record.{byte, number, bodyAt, headAt, generalOf, capOf, capabilityOf, isLine, lineOf, entryOf}
 
 -- a header of two bytes is there, and says n
 module _ (book : List ℕ) (at n : ℕ) (h : at < length book) (k : 2 ≤ length book - at) (e : n ≡ be (take (at + 2 - at) (drop at book)) % 2 ^ 64) where
@@ -85,48 +83,49 @@ line-room a r e =
     let f = line-tests (ltb a RAM-BASE) (eqb (a % 32) 0) (leb (a - RAM-BASE + 32) r) e in
     (ltb-false a RAM-BASE (f .0), leb-true (a - RAM-BASE + 32) r (f .1))
 
--- what an entry that is a line says: no other kind of body gives one
-no-capability : (t₁ t₂ t₃ : Bool) (i a : ℕ) (c : Cap) (tag : Bool)
-    → cond t₁ (cond t₂ (cond t₃ (Entry.Capability i c) (refused Refusal.Top)) (refused Refusal.Field)) (refused Refusal.Cut) ≡ Entry.Line a tag → ⊥
-no-capability true true true i a c tag e = let z : _≡_ {A = ℕ} 0 1 = cc in omega arith
-no-capability true true false i a c tag e = let z : _≡_ {A = ℕ} 0 1 = cc in omega arith
-no-capability true false t₃ i a c tag e = let z : _≡_ {A = ℕ} 0 1 = cc in omega arith
-no-capability false t₂ t₃ i a c tag e = let z : _≡_ {A = ℕ} 0 1 = cc in omega arith
-
-no-general : (t₁ t₂ : Bool) (i v a : ℕ) (tag : Bool) → cond t₁ (cond t₂ (Entry.General i v) (refused Refusal.Field)) (refused Refusal.Cut) ≡ Entry.Line a tag → ⊥
-no-general true true i v a tag e = let z : _≡_ {A = ℕ} 0 1 = cc in omega arith
-no-general true false i v a tag e = let z : _≡_ {A = ℕ} 0 1 = cc in omega arith
-no-general false t₂ i v a tag e = let z : _≡_ {A = ℕ} 0 1 = cc in omega arith
-
-line-entry : (t₁ t₂ t₃ t₄ u tag : Bool) (x a : ℕ)
-    → cond t₁ (cond (t₂ && t₃) (cond t₄ (Entry.Line x u) (refused Refusal.Top)) (refused Refusal.Field)) (refused Refusal.Cut) ≡ Entry.Line a tag
-    → (t₁ ≡ true) × (t₃ ≡ true) × (x ≡ a)
-line-entry true true true true u tag x a e = (refl, refl, cc)
-line-entry true true true false u tag x a e = let z : _≡_ {A = ℕ} 0 1 = cc in absurd (omega arith)
-line-entry true true false t₄ u tag x a e = let z : _≡_ {A = ℕ} 0 1 = cc in absurd (omega arith)
-line-entry true false t₃ t₄ u tag x a e = let z : _≡_ {A = ℕ} 0 1 = cc in absurd (omega arith)
-line-entry false t₂ t₃ t₄ u tag x a e = let z : _≡_ {A = ℕ} 0 1 = cc in absurd (omega arith)
-
+-- what an entry that is a line says of its body and its place
 pub record LineFits (body : List ℕ) (ram a : ℕ) : Type 0 where
   pub bytes : length body ≡ 42
   pub above : RAM-BASE ≤ a
   pub room : a - RAM-BASE + 32 ≤ ram
 
-line-kind : (t₀ t₁ t₂ t₃ : Bool) (body : List ℕ) (ram a : ℕ) (tag : Bool)
-    → cond t₀ (refused Refusal.Cut) (cond t₁ (capabilityOf body) (cond t₂ (generalOf body) (cond t₃ (lineOf body ram) (refused Refusal.Kind)))) ≡ Entry.Line a tag
-    → LineFits body ram a
-unfolding capabilityOf generalOf lineOf
-line-kind true t₁ t₂ t₃ body ram a tag e = let z : _≡_ {A = ℕ} 0 1 = cc in absurd (omega arith)
-line-kind false true t₂ t₃ body ram a tag e =
-    absurd (no-capability (eqb (length body) 36) (leb (byte body 1) 32 && (leb (byte body 2) 1 && (leb (byte body 3) 1 && ltb (byte body 8) 128))) (topFits (capOf body)) (byte body 1) a (capOf body) tag e)
-line-kind false false true t₃ body ram a tag e =
-    absurd (no-general (eqb (length body) 10) (leb 1 (byte body 1) && leb (byte body 1) 31) (byte body 1) (number body 2 8) a tag e)
-line-kind false false false true body ram a tag e =
-    let f = line-entry (eqb (length body) 42) (leb (byte body 9) 1) (isLine (number body 1 8) ram) (loadedFits (capIn (eqb (byte body 9) 1) (take 32 (drop 10 body)))) (eqb (byte body 9) 1) tag (number body 1 8) a e in
-    let g = line-room (number body 1 8) ram (f .1) in
-    record { bytes = eqb-true (length body) 42 (f .0); above = omega (arith, g .0, f .2); room = omega (arith, g .1, f .2) }
-line-kind false false false false body ram a tag e = let z : _≡_ {A = ℕ} 0 1 = cc in absurd (omega arith)
+abbrev pub Fits : List ℕ → ℕ → Entry → Type 0
+Fits body ram (Entry.Capability number c) = Unit {0}
+Fits body ram (Entry.General number v) = Unit {0}
+Fits body ram (Entry.Line a tag) = LineFits body ram a
+Fits body ram (Entry.Refused refusal) = Unit {0}
 
-pub line-fits : (body : List ℕ) (ram a : ℕ) (tag : Bool) → entryOf body ram ≡ Entry.Line a tag → LineFits body ram a
-unfolding entryOf
-line-fits body ram a tag e = line-kind (eqb (length body) 0) (eqb (byte body 0) 1) (eqb (byte body 0) 2) (eqb (byte body 0) 3) body ram a tag e
+both-true : (t₁ t₂ : Bool) → (t₁ && t₂) ≡ true → t₂ ≡ true
+both-true true t₂ e = e
+both-true false t₂ e = let z : _≡_ {A = ℕ} 0 1 = cc in absurd (omega arith)
+
+module _ (body : List ℕ) (ram : ℕ) where
+  when : (t : Bool) (x y : Entry) → (t ≡ true → Fits body ram x) → Fits body ram y → Fits body ram (cond t x y)
+  when true x y h k = h refl
+  when false x y h k = k
+
+  capability-fits : Fits body ram (capabilityOf body)
+  unfolding capabilityOf
+  capability-fits =
+      when (eqb (length body) 36) _ _
+      (λ _. when (leb (byte body 1) 32 && (leb (byte body 2) 1 && (leb (byte body 3) 1 && ltb (byte body 8) 128))) _ _ (λ _. when (topFits (capOf body)) _ _ (λ _. tt) tt) tt) tt
+
+  general-fits : Fits body ram (generalOf body)
+  unfolding generalOf
+  general-fits = when (eqb (length body) 10) _ _ (λ _. when (leb 1 (byte body 1) && leb (byte body 1) 31) _ _ (λ _. tt) tt) tt
+
+  line-fits : Fits body ram (lineOf body ram)
+  unfolding lineOf
+  line-fits =
+      when (eqb (length body) 42) _ _
+      (λ e. when (leb (byte body 9) 1 && isLine (number body 1 8) ram) _ _
+      (λ f. let g = line-room (number body 1 8) ram (both-true (leb (byte body 9) 1) (isLine (number body 1 8) ram) f) in
+      when (loadedFits (capIn (eqb (byte body 9) 1) (take 32 (drop 10 body)))) _ _ (λ _. record { bytes = eqb-true (length body) 42 e; above = g .0; room = g .1 }) tt) tt) tt
+
+  pub entry-fits : Fits body ram (entryOf body ram)
+  unfolding entryOf
+  entry-fits =
+      when (eqb (length body) 0) _ _ (λ _. tt)
+      (when (eqb (byte body 0) 1) _ _ (λ _. capability-fits)
+      (when (eqb (byte body 0) 2) _ _ (λ _. general-fits)
+      (when (eqb (byte body 0) 3) _ _ (λ _. line-fits) tt)))
