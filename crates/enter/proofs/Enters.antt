@@ -14,8 +14,8 @@ use Rattle.record.specs.declared.Entry.{Entry}
 use Rattle.record.proofs.Laws.{Fits, entry-fits}
 use Rattle.book.specs.declared.Step.{Step}
 use Rattle.book.specs.Book.{kindOf, keyOf, stepAt}
-use Rattle.book.proofs.Walks.{more-goes-on, more-fits, step-end}
-use Rattle.enter.specs.Enter.{Start, zeroMachine, machineWith, ramWith, tagsWith, entered, enterAll, enterBook, bare, LineIsThere}
+use Rattle.book.proofs.Walks.{GoesOn, more-goes-on, more-fits, step-end}
+use Rattle.enter.specs.Enter.{Start, zeroMachine, machineWith, ramWith, tagsWith, entered, enterAll, enterBook, bare, RegisterIsThere, LineIsThere}
 
 -- cleared from the front to the end
 pub cleared : (l ys : List ℕ) (i : ℕ) → ys ≡ replicate i 0 ++ drop i l → i ≤ length l → length l ≤ i → ys ≡ replicate (length l) 0
@@ -33,19 +33,38 @@ copied book ram ys end at h k l e =
     let z : ys ≡ take 32 (drop (end - 32) book) = e ∙ rw (add-sub-cancel-left, n, take-length, q, drop-of-length-le (take 32 (drop at ram)) {i = 32} (omega arith), append-nil) in
     put-part ram at 32 ys (take 32 (drop (end - 32) book)) l z q
 
--- a record of the walk that is a line has its bytes and its place
+-- a record of the walk has its register there, or its line's bytes and place
+register-there : (e : Entry) (body : List ℕ) (ram : ℕ) → Fits body ram e → RegisterIsThere e
+register-there (Entry.Capability number c) body ram f = f
+register-there (Entry.General number value) body ram f = f
+register-there (Entry.Line address tag) body ram f = tt
+register-there (Entry.Refused refusal) body ram f = tt
+
 line-there : (e : Entry) (book : List ℕ) (ram start bytes x : ℕ) → start + bytes ≡ x → x ≤ length book → Fits (take bytes (drop start book)) ram e → LineIsThere book x e ram
 line-there (Entry.Capability number c) book ram start bytes x z h f = tt
 line-there (Entry.General number value) book ram start bytes x z h f = tt
 line-there (Entry.Line address tag) book ram start bytes x z h f = (omega (arith, f .bytes, length-take bytes (drop start book)), h, f .above, f .room)
 line-there (Entry.Refused refusal) book ram start bytes x z h f = tt
 
+fits : (book : List ℕ) (ram at x : ℕ) (e : Entry) (g : GoesOn book ram at x e) → Fits (take (g .bytes) (drop (g .start) book)) ram e
+fits book ram at x e g =
+    let body = take (g .bytes) (drop (g .start) book) in
+    subst (λ (y : Entry). Fits body ram y) (g .says) (entry-fits body ram)
+
+pub registered : (book : List ℕ) (ram at kind key x : ℕ) (e : Entry) → Step.More x e ≡ stepAt book ram at kind key → RegisterIsThere e
+registered book ram at kind key x e q =
+    let g = more-goes-on book ram at kind key x e q in
+    register-there e (take (g .bytes) (drop (g .start) book)) ram (fits book ram at x e g)
+
 pub there : (book : List ℕ) (ram r at kind key x : ℕ) (e : Entry) → r ≡ ram → Step.More x e ≡ stepAt book ram at kind key → LineIsThere book x e r
 there book ram r at kind key x e z q =
     let g = more-goes-on book ram at kind key x e q in
-    let body = take (g .bytes) (drop (g .start) book) in
-    let f = subst (λ (y : Entry). Fits body ram y) (g .says) (entry-fits body ram) in
-    subst (λ (n : ℕ). LineIsThere book x e n) (sym z) (line-there e book ram (g .start) (g .bytes) x (g .ends) (more-fits book ram at kind key x e q .1) f)
+    subst (λ (n : ℕ). LineIsThere book x e n) (sym z)
+    (line-there e book ram (g .start) (g .bytes) x (g .ends) (more-fits book ram at kind key x e q .1) (fits book ram at x e g))
+
+-- the same, once the entry is told
+pub is-register : (e e′ : Entry) → e ≡ e′ → RegisterIsThere e → RegisterIsThere e′
+is-register e e′ q h = subst (λ (x : Entry). RegisterIsThere x) q h
 
 pub is-line : (book : List ℕ) (end : ℕ) (e e′ : Entry) (ram : ℕ) → e ≡ e′ → LineIsThere book end e ram → LineIsThere book end e′ ram
 is-line book end e e′ ram q h = subst (λ (x : Entry). LineIsThere book end x ram) q h

@@ -1,9 +1,9 @@
 -- A start book entered into a machine and its memories (01, "The start book").
-use Prim.Native.Nat.{ℕ, zero, suc, _+_, _-_, _/_, _%_, _≤_}
+use Prim.Native.Nat.{ℕ, zero, suc, _+_, _-_, _/_, _≤_}
 use mathlib.Core.Bool.{cond}
 use mathlib.Core.List.{List}
 use lib.ListN.{length, take, drop, set, replicate}
-use lib.Dec.{ltb}
+use lib.Dec.{eqb}
 use Rattle.mem.specs.Number.{LINE}
 use Rattle.mem.specs.Place.{RAM-BASE}
 use Rattle.mem.specs.Store.{put, withTag}
@@ -26,13 +26,13 @@ zeroMachine = record { general = replicate 32 0; caps = replicate 32 null; pcc =
 -- kind 1: number 0..31, 32 for PCC
 abbrev pub withCapability : Machine → ℕ → Cap → Machine
 withCapability m number c =
-    cond (ltb number 32)
-    (record { general = m .general; caps = set (m .caps) number c; pcc = m .pcc; pending = m .pending; cause = m .cause })
+    cond (eqb number 32)
     (record { general = m .general; caps = m .caps; pcc = c; pending = m .pending; cause = m .cause })
+    (record { general = m .general; caps = set (m .caps) number c; pcc = m .pcc; pending = m .pending; cause = m .cause })
 
 -- kind 2: number 1..31
 abbrev pub withGeneral : Machine → ℕ → ℕ → Machine
-withGeneral m number value = record { general = set (m .general) (number % 32) value; caps = m .caps; pcc = m .pcc; pending = m .pending; cause = m .cause }
+withGeneral m number value = record { general = set (m .general) number value; caps = m .caps; pcc = m .pcc; pending = m .pending; cause = m .cause }
 
 unfoldable pub machineWith : Entry → Machine → Machine
 machineWith (Entry.Capability number c) m = withCapability m number c
@@ -96,7 +96,13 @@ startAs (Verdict.Refused refusal) book ram tags = bare ram tags
 unfoldable pub readBook : List ℕ → ℕ → List ℕ → List ℕ → Start
 readBook book flash ram tags = startAs (judged book flash (length ram) (length tags)) book ram tags
 
--- the bytes of a line's record and the line that it names are there
+-- what every record that the walk comes to is: its register is there, or the bytes of its line and the line's place
+abbrev pub RegisterIsThere : Entry → Type 0
+RegisterIsThere (Entry.Capability number c) = number ≤ 32
+RegisterIsThere (Entry.General number value) = number ≤ 31
+RegisterIsThere (Entry.Line address tag) = Unit {0}
+RegisterIsThere (Entry.Refused refusal) = Unit {0}
+
 abbrev pub LineIsThere : List ℕ → ℕ → Entry → ℕ → Type 0
 LineIsThere book end (Entry.Capability number c) ram = Unit {0}
 LineIsThere book end (Entry.General number value) ram = Unit {0}

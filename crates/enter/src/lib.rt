@@ -6,11 +6,13 @@ use mem::LINE;
 use mem::RAM_BASE;
 use perform::Pending;
 use record::Entry;
+use record::PCC;
 use record::Refusal;
 use state::Machine;
 ghost use mathlib.Core.Path.{_≡_};
+ghost use Prim.Native.Nat.{_≤_};
 ghost use lib.ListN.{length, replicate};
-ghost use Rattle.enter.specs.Enter.{zeroMachine, withCapability, withGeneral, machineWith, ramWith, tagsWith, enterBook, judged, verdictNumber, bare, readBook, LineIsThere};
+ghost use Rattle.enter.specs.Enter.{zeroMachine, withCapability, withGeneral, machineWith, ramWith, tagsWith, enterBook, judged, verdictNumber, bare, readBook, RegisterIsThere, LineIsThere};
 
 // What a book gives: the verdict on it, and the machine that it names, all zero where it is refused.
 pub struct Started {
@@ -55,28 +57,31 @@ fn clear(bytes: &mut [u8])
 
 // Kind 1: a capability register, or PCC.
 fn with_capability(mut m: Machine, number: u8, c: Cap) -> Machine
+    requires { ⌜ number ≤ 32 ⌝ }
     ensures { λ r. ⌜ r ≡ withCapability m number c ⌝ }
 {
-    let i = number as usize;
-    if i < 32 {
-        m.caps[i] = c;
-    } else {
+    if number == PCC {
         m.pcc = c;
+    } else {
+        let i = number as usize;
+        m.caps[i] = c;
     }
     m
 }
 
 // Kind 2: a general register.
 fn with_general(mut m: Machine, number: u8, value: u64) -> Machine
+    requires { ⌜ number ≤ 31 ⌝ }
     ensures { λ r. ⌜ r ≡ withGeneral m number value ⌝ }
 {
-    let i = (number % 32) as usize;
+    let i = number as usize;
     m.general[i] = value;
     m
 }
 
 // The registers with what a record says.
 fn with_entry(m: Machine, entry: Entry) -> Machine
+    requires { ⌜ RegisterIsThere entry ⌝ }
     ensures { λ r. ⌜ r ≡ machineWith entry m ⌝ }
 {
     match entry {

@@ -1,4 +1,4 @@
--- The laws of a record's head and of a line's address, one for each answer, and of an entry that is a line. Assumes nothing.
+-- The laws of a record's head and of a line's address, one for each answer, and what an entry says. Assumes nothing.
 use Prim.Native.Nat.{ℕ, _+_, _-_, _%_, _^_, _<_, _≤_}
 use mathlib.Core.Path.{_≡_, refl, sym}
 use mathlib.Core.Bool.{Bool, true, false, cond, _&&_}
@@ -83,20 +83,20 @@ line-room a r e =
     let f = line-tests (ltb a RAM-BASE) (eqb (a % 32) 0) (leb (a - RAM-BASE + 32) r) e in
     (ltb-false a RAM-BASE (f .0), leb-true (a - RAM-BASE + 32) r (f .1))
 
--- what an entry that is a line says of its body and its place
+-- what an entry says of its number, or of its body and its place
 pub record LineFits (body : List ℕ) (ram a : ℕ) : Type 0 where
   pub bytes : length body ≡ 42
   pub above : RAM-BASE ≤ a
   pub room : a - RAM-BASE + 32 ≤ ram
 
 abbrev pub Fits : List ℕ → ℕ → Entry → Type 0
-Fits body ram (Entry.Capability number c) = Unit {0}
-Fits body ram (Entry.General number v) = Unit {0}
+Fits body ram (Entry.Capability i c) = i ≤ 32
+Fits body ram (Entry.General i v) = i ≤ 31
 Fits body ram (Entry.Line a tag) = LineFits body ram a
 Fits body ram (Entry.Refused refusal) = Unit {0}
 
-both-true : (t₁ t₂ : Bool) → (t₁ && t₂) ≡ true → t₂ ≡ true
-both-true true t₂ e = e
+both-true : (t₁ t₂ : Bool) → (t₁ && t₂) ≡ true → (t₁ ≡ true) × (t₂ ≡ true)
+both-true true t₂ e = (refl, e)
 both-true false t₂ e = let z : _≡_ {A = ℕ} 0 1 = cc in absurd (omega arith)
 
 module _ (body : List ℕ) (ram : ℕ) where
@@ -107,19 +107,23 @@ module _ (body : List ℕ) (ram : ℕ) where
   capability-fits : Fits body ram (capabilityOf body)
   unfolding capabilityOf
   capability-fits =
+      let rest = leb (byte body 2) 1 && (leb (byte body 3) 1 && ltb (byte body 8) 128) in
       when (eqb (length body) 36) _ _
-      (λ _. when (leb (byte body 1) 32 && (leb (byte body 2) 1 && (leb (byte body 3) 1 && ltb (byte body 8) 128))) _ _ (λ _. when (topFits (capOf body)) _ _ (λ _. tt) tt) tt) tt
+      (λ _. when (leb (byte body 1) 32 && rest) _ _
+      (λ f. when (topFits (capOf body)) _ _ (λ _. leb-true (byte body 1) 32 (both-true (leb (byte body 1) 32) rest f .0)) tt) tt) tt
 
   general-fits : Fits body ram (generalOf body)
   unfolding generalOf
-  general-fits = when (eqb (length body) 10) _ _ (λ _. when (leb 1 (byte body 1) && leb (byte body 1) 31) _ _ (λ _. tt) tt) tt
+  general-fits =
+      when (eqb (length body) 10) _ _
+      (λ _. when (leb 1 (byte body 1) && leb (byte body 1) 31) _ _ (λ f. leb-true (byte body 1) 31 (both-true (leb 1 (byte body 1)) (leb (byte body 1) 31) f .1)) tt) tt
 
   line-fits : Fits body ram (lineOf body ram)
   unfolding lineOf
   line-fits =
       when (eqb (length body) 42) _ _
       (λ e. when (leb (byte body 9) 1 && isLine (number body 1 8) ram) _ _
-      (λ f. let g = line-room (number body 1 8) ram (both-true (leb (byte body 9) 1) (isLine (number body 1 8) ram) f) in
+      (λ f. let g = line-room (number body 1 8) ram (both-true (leb (byte body 9) 1) (isLine (number body 1 8) ram) f .1) in
       when (loadedFits (capIn (eqb (byte body 9) 1) (take 32 (drop 10 body)))) _ _ (λ _. record { bytes = eqb-true (length body) 42 e; above = g .0; room = g .1 }) tt) tt) tt
 
   pub entry-fits : Fits body ram (entryOf body ram)

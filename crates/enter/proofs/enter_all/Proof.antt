@@ -8,7 +8,7 @@ use denote.Ref.{now}
 use Rattle.book.specs.Book.{stepAt}
 use Rattle.book.proofs.Walks.{more-fits}
 use Rattle.enter.specs.Enter.{Start, enterAll, enterBook, bare}
-use Rattle.enter.proofs.Enters.{holding, begins, ends, breaks, goes-on, there, enters}
+use Rattle.enter.proofs.Enters.{holding, begins, ends, breaks, goes-on, registered, there, enters}
 use Rattle.enter.proofs.enter_all.Statement.{statement}
 use Rattle.enter.proofs.enter_all.Tie as tie
 
@@ -48,6 +48,9 @@ returns-2 c =
     let e = breaks (v .2) _ _ _ _ _ (sym (c .enum-told2 .given .1) ∙ c .before .before .step-at .ensures) ∙ v .4 in
     (ap (λ (s : Start). s .machine) e, (ap (λ (s : Start). s .ram) e, ap (λ (s : Start). s .tags) e))
 
+with-entry-requires : tie.Need-with-entry-requires Inv-loop μ-loop
+with-entry-requires c κs = registered _ _ _ _ _ _ _ (sym (c .before .step .given .1) ∙ c .before .before .before .step-at .ensures)
+
 put-entry-requires : tie.Need-put-entry-requires Inv-loop μ-loop
 put-entry-requires c κs =
     there _ _ _ _ _ _ _ _ (c .before .before .before .before .before .before .before .loop .inv .0) (sym (c .before .before .before .before .step .given .1) ∙ c .before .before .before .before .before .before .step-at .ensures)
@@ -84,7 +87,7 @@ enter-all-spec =
     same-length-4
     returns-2
     (λ c. search needs)
-    asks
+    with-entry-requires
     put-entry-requires
     asks
     asks

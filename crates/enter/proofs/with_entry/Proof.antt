@@ -1,8 +1,14 @@
-use Rattle.mem.proofs.Calls.{asks}
 use borrow.Author.Needs.{needs}
 use Rattle.enter.specs.Enter.{machineWith}
+use Rattle.enter.proofs.Enters.{is-register}
 use Rattle.enter.proofs.with_entry.Statement.{statement}
 use Rattle.enter.proofs.with_entry.Tie as tie
+
+with-capability-requires : tie.Need-with-capability-requires
+with-capability-requires c κs = is-register _ _ (c .before .entry .given .1) (c .before .before .before .pre)
+
+with-general-requires : tie.Need-with-general-requires
+with-general-requires c κs = is-register _ _ (c .before .entry2 .given .1) (c .before .before .before .pre)
 
 returns : tie.Need-returns
 unfolding machineWith
@@ -25,9 +31,9 @@ with-entry-spec =
     tie.close
     (tie.spec
     (λ c. search needs)
-    asks
+    with-capability-requires
     (λ c. search needs)
-    asks
+    with-general-requires
     (λ c. search needs)
     (λ c. search needs)
     returns
