@@ -1,3 +1,5 @@
 pub mod Found
 pub mod Entries
 pub mod Walked
+pub mod Accepted
+pub mod Written

@@ -74,24 +74,24 @@ piece-goes false body entry ram K b b′ ek eb h f book at rest s after kind key
     goes-over book ram at kind key (at + length (recordOf body)) entry p (omega (arith, record-end body at)) (rw (ek, eb) (after K b (upto-own K b b′ h)))
 
 -- pieces one after the other
-module _ (book : List ℕ) (ram K last : ℕ) (key : ℕ → ℕ) (piece : ℕ → List ℕ)
-    (one : (i : ℕ) → i < last → (at : ℕ) (rest : List ℕ) → Suffix book at (piece i ++ rest)
+module _ (book : List ℕ) (ram K low last : ℕ) (key : ℕ → ℕ) (piece : ℕ → List ℕ)
+    (one : (i : ℕ) → low ≤ i → i < last → (at : ℕ) (rest : List ℕ) → Suffix book at (piece i ++ rest)
     → ((kind k : ℕ) → Upto K (key (suc i)) kind k → Goes book ram (at + length (piece i)) kind k)
     → (kind k : ℕ) → Upto K (key i) kind k → Goes book ram at kind k) where
-  pub pieces-go : (n i at : ℕ) (rest : List ℕ) → i + n ≤ last → Suffix book at (pieces n i piece ++ rest)
+  pub pieces-go : (n i at : ℕ) (rest : List ℕ) → low ≤ i → i + n ≤ last → Suffix book at (pieces n i piece ++ rest)
       → ((kind k : ℕ) → Upto K (key (i + n)) kind k → Goes book ram (at + length (pieces n i piece)) kind k)
       → (kind k : ℕ) → Upto K (key i) kind k → Goes book ram at kind k
   unfolding pieces
-  pieces-go zero i at rest h s after kind k u =
+  pieces-go zero i at rest g h s after kind k u =
       let z : at + 0 ≡ at = omega arith in
       let y : i + 0 ≡ i = omega arith in
       subst (λ (x : ℕ). Goes book ram x kind k) z (after kind k (rw y u))
-  pieces-go (suc n) i at rest h s after kind₀ k₀ u₀ =
+  pieces-go (suc n) i at rest g h s after kind₀ k₀ u₀ =
       let P = pieces n (suc i) piece in
       let s′ : Suffix book at (piece i ++ (P ++ rest)) = subst (λ (l : List ℕ). Suffix book at l) (append-assoc (piece i) P rest) s in
       let y : suc i + n ≡ i + suc n = omega arith in
       let z : at + length (piece i ++ P) ≡ at + length (piece i) + length P = rw length-append (omega arith) in
-      one i (omega arith) at (P ++ rest) s′
-      (pieces-go n (suc i) (at + length (piece i)) rest (omega arith) (further book at (piece i) (P ++ rest) s′)
+      one i g (omega arith) at (P ++ rest) s′
+      (pieces-go n (suc i) (at + length (piece i)) rest (omega arith) (omega arith) (further book at (piece i) (P ++ rest) s′)
       (λ kind k u. subst (λ (x : ℕ). Goes book ram x kind k) z (after kind k (subst (λ (x : ℕ). Upto K (key x) kind k) y u))))
       kind₀ k₀ u₀

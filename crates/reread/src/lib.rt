@@ -1,9 +1,11 @@
 // What the writer of start books spells, their reader finds.
 ghost use Rattle.reread.specs.Records.{CapIsRead, GeneralIsRead, LineIsRead};
+ghost use Rattle.reread.specs.Claims.{WrittenIsAccepted};
 
-// Each record that the writer spells is read as what was written.
+// Each record that the writer spells is read as what was written, and a book that it wrote is accepted.
 pub fn claims()
     ensures cap_is_read { λ _. ⌜ CapIsRead ⌝ }
     ensures general_is_read { λ _. ⌜ GeneralIsRead ⌝ }
     ensures line_is_read { λ _. ⌜ LineIsRead ⌝ }
+    ensures written_is_accepted { λ _. ⌜ WrittenIsAccepted ⌝ }
 {}
