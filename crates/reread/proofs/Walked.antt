@@ -39,7 +39,7 @@ pub goes-end : (book : List ℕ) (ram at kind key : ℕ) → length book ≤ at 
 unfolding stepAt headAt afterHead
 goes-end book ram at kind key h n k = rw (le-leb (length book) at h) (walk-done n book ram)
 
-goes-over : (book : List ℕ) (ram at kind key x : ℕ) (e : Entry) → stepAt book ram at kind key ≡ Step.More x e → at < x → Goes book ram x (kindOf e) (keyOf e) → Goes book ram at kind key
+pub goes-over : (book : List ℕ) (ram at kind key x : ℕ) (e : Entry) → stepAt book ram at kind key ≡ Step.More x e → at < x → Goes book ram x (kindOf e) (keyOf e) → Goes book ram at kind key
 unfolding walk
 goes-over book ram at kind key x e p h g zero k = refl
 goes-over book ram at kind key x e p h g (suc n) k = rw p (g n (omega arith))
@@ -60,32 +60,36 @@ upto-next K K′ b b′ kind key h u =
     let l = u .kinds in
     record { kinds = omega (arith, l); follows = λ next k. sym (rises kind key K′ next (omega (arith, l))) }
 
--- one piece: nothing, or a record that is found
-pub piece-goes : (t : Bool) (body : List ℕ) (entry : Entry) (ram K b b′ : ℕ) → kindOf entry ≡ K → keyOf entry ≡ b → b < b′ → (t ≡ false → Found body ram entry)
-    → (book : List ℕ) (at : ℕ) (rest : List ℕ) → Suffix book at (cond t [] (recordOf body) ++ rest)
-    → ((kind key : ℕ) → Upto K b′ kind key → Goes book ram (at + length (cond t [] (recordOf body))) kind key)
-    → (kind key : ℕ) → Upto K b kind key → Goes book ram at kind key
-piece-goes true body entry ram K b b′ ek eb h f book at rest s after kind key u =
-    let z : at + 0 ≡ at = omega arith in
-    subst (λ (x : ℕ). Goes book ram x kind key) z (after kind key (upto-more K b b′ kind key (omega arith) u))
-piece-goes false body entry ram K b b′ ek eb h f book at rest s after kind key u =
-    let o : inOrder kind key (kindOf entry) (keyOf entry) ≡ true = rw (ek, eb) (u .follows b (omega arith)) in
-    let p : stepAt book ram at kind key ≡ Step.More (at + length (recordOf body)) entry = rw (s .split, ← s .place) (f refl (s .before) rest kind key o) in
-    goes-over book ram at kind key (at + length (recordOf body)) entry p (omega (arith, record-end body at)) (rw (ek, eb) (after K b (upto-own K b b′ h)))
+-- One piece: nothing, or a record that is found. `Before` and `After` say what holds at a place, after a record of a kind and key:
+-- a walk that keeps a state says by them what it has then.
+module _ (book : List ℕ) (ram : ℕ) (Before After : ℕ → ℕ → ℕ → Type 0) where
+  pub piece-goes : (t : Bool) (body : List ℕ) (entry : Entry) (K b b′ : ℕ) → kindOf entry ≡ K → keyOf entry ≡ b → b < b′ → (t ≡ false → Found body ram entry)
+      → (at : ℕ) (rest : List ℕ) → Suffix book at (cond t [] (recordOf body) ++ rest)
+      → (t ≡ true → (kind key : ℕ) → After at kind key → Before at kind key)
+      → (t ≡ false → (kind key x : ℕ) → stepAt book ram at kind key ≡ Step.More x entry → at < x → After x (kindOf entry) (keyOf entry) → Before at kind key)
+      → ((kind key : ℕ) → Upto K b′ kind key → After (at + length (cond t [] (recordOf body))) kind key)
+      → (kind key : ℕ) → Upto K b kind key → Before at kind key
+  piece-goes true body entry K b b′ ek eb h f at rest s skip over after kind key u =
+      let z : at + 0 ≡ at = omega arith in
+      skip refl kind key (subst (λ (x : ℕ). After x kind key) z (after kind key (upto-more K b b′ kind key (omega arith) u)))
+  piece-goes false body entry K b b′ ek eb h f at rest s skip over after kind key u =
+      let o : inOrder kind key (kindOf entry) (keyOf entry) ≡ true = rw (ek, eb) (u .follows b (omega arith)) in
+      let p : stepAt book ram at kind key ≡ Step.More (at + length (recordOf body)) entry = rw (s .split, ← s .place) (f refl (s .before) rest kind key o) in
+      over refl kind key (at + length (recordOf body)) p (omega (arith, record-end body at)) (rw (ek, eb) (after K b (upto-own K b b′ h)))
 
--- pieces one after the other
-module _ (book : List ℕ) (ram K low last : ℕ) (key : ℕ → ℕ) (piece : ℕ → List ℕ)
+-- pieces one after the other; `Holds i` is what holds before piece i
+module _ (book : List ℕ) (K low last : ℕ) (key : ℕ → ℕ) (piece : ℕ → List ℕ) (Holds : ℕ → ℕ → ℕ → ℕ → Type 0)
     (one : (i : ℕ) → low ≤ i → i < last → (at : ℕ) (rest : List ℕ) → Suffix book at (piece i ++ rest)
-    → ((kind k : ℕ) → Upto K (key (suc i)) kind k → Goes book ram (at + length (piece i)) kind k)
-    → (kind k : ℕ) → Upto K (key i) kind k → Goes book ram at kind k) where
+      → ((kind k : ℕ) → Upto K (key (suc i)) kind k → Holds (suc i) (at + length (piece i)) kind k)
+      → (kind k : ℕ) → Upto K (key i) kind k → Holds i at kind k) where
   pub pieces-go : (n i at : ℕ) (rest : List ℕ) → low ≤ i → i + n ≤ last → Suffix book at (pieces n i piece ++ rest)
-      → ((kind k : ℕ) → Upto K (key (i + n)) kind k → Goes book ram (at + length (pieces n i piece)) kind k)
-      → (kind k : ℕ) → Upto K (key i) kind k → Goes book ram at kind k
+      → ((kind k : ℕ) → Upto K (key (i + n)) kind k → Holds (i + n) (at + length (pieces n i piece)) kind k)
+      → (kind k : ℕ) → Upto K (key i) kind k → Holds i at kind k
   unfolding pieces
   pieces-go zero i at rest g h s after kind k u =
       let z : at + 0 ≡ at = omega arith in
       let y : i + 0 ≡ i = omega arith in
-      subst (λ (x : ℕ). Goes book ram x kind k) z (after kind k (rw y u))
+      subst (λ (x : ℕ). Holds i x kind k) z (subst (λ (x : ℕ). Holds x (at + 0) kind k) y (after kind k (rw y u)))
   pieces-go (suc n) i at rest g h s after kind₀ k₀ u₀ =
       let P = pieces n (suc i) piece in
       let s′ : Suffix book at (piece i ++ (P ++ rest)) = subst (λ (l : List ℕ). Suffix book at l) (append-assoc (piece i) P rest) s in
@@ -93,5 +97,7 @@ module _ (book : List ℕ) (ram K low last : ℕ) (key : ℕ → ℕ) (piece : �
       let z : at + length (piece i ++ P) ≡ at + length (piece i) + length P = rw length-append (omega arith) in
       one i g (omega arith) at (P ++ rest) s′
       (pieces-go n (suc i) (at + length (piece i)) rest (omega arith) (omega arith) (further book at (piece i) (P ++ rest) s′)
-      (λ kind k u. subst (λ (x : ℕ). Goes book ram x kind k) z (after kind k (subst (λ (x : ℕ). Upto K (key x) kind k) y u))))
+      (λ kind k u.
+        subst (λ (x : ℕ). Holds x (at + length (piece i) + length P) kind k) (sym y)
+        (subst (λ (x : ℕ). Holds (i + suc n) x kind k) z (after kind k (subst (λ (x : ℕ). Upto K (key x) kind k) y u)))))
       kind₀ k₀ u₀

@@ -27,7 +27,7 @@ use Rattle.write.specs.Write.{pieces, capPiece, generalPiece, lineBytes, linePi
 use Rattle.write.proofs.Books.{lines-there}
 use Rattle.reread.specs.Claims.{Typed, WrittenIsAccepted}
 use Rattle.reread.proofs.Entries.{cap-is-read, general-is-read, line-is-read}
-use Rattle.reread.proofs.Walked.{Suffix, further, Goes, goes-end, Upto, upto-next, piece-goes, pieces-go}
+use Rattle.reread.proofs.Walked.{Suffix, further, Goes, goes-end, goes-over, Upto, upto-next, piece-goes, pieces-go}
 use Rattle.reread.proofs.Accepted.{cap-top, pcc-top, cap-width, pcc-width, line-top, within, bytes-32, loaded-top}
 
 ends : (book : List ℕ) (at : ℕ) → Suffix book at [] → length book ≤ at
@@ -43,9 +43,9 @@ module _ (m : Machine) (ram tags : List ℕ) (ty : Typed m) (v : start.Verdict.A
         → ((kind k : ℕ) → Upto 1 (suc number) kind k → Goes book (length ram) (at + length (capPiece number c)) kind k)
         → (kind k : ℕ) → Upto 1 number kind k → Goes book (length ram) at kind k
     unfolding capPiece
-    cap-goes number c h w t at rest =
-        piece-goes (zeroCap c) (capBody number c) (Entry.Capability number c) (length ram) 1 number (suc number) refl refl (omega arith)
-        (λ e. cap-is-read number c (length ram) h w t) book at rest
+    cap-goes number c h w t at rest s =
+        piece-goes book (length ram) (Goes book (length ram)) (Goes book (length ram)) (zeroCap c) (capBody number c) (Entry.Capability number c) 1 number (suc number) refl refl (omega arith)
+        (λ e. cap-is-read number c (length ram) h w t) at rest s (λ e kind k g. g) (λ e kind k x p l g. goes-over book (length ram) at kind k x (Entry.Capability number c) p l g)
 
     caps-go : (i : ℕ) → 0 ≤ i → i < 32 → (at : ℕ) (rest : List ℕ) → Suffix book at (capPiece i (getD (m .caps) i null) ++ rest)
         → ((kind k : ℕ) → Upto 1 (suc i) kind k → Goes book (length ram) (at + length (capPiece i (getD (m .caps) i null))) kind k)
@@ -65,24 +65,24 @@ module _ (m : Machine) (ram tags : List ℕ) (ty : Typed m) (v : start.Verdict.A
         → ((kind k : ℕ) → Upto 2 (suc i) kind k → Goes book (length ram) (at + length (generalPiece i (getD (m .general) i 0))) kind k)
         → (kind k : ℕ) → Upto 2 i kind k → Goes book (length ram) at kind k
     unfolding generalPiece
-    generals-go i h l at rest =
+    generals-go i h l at rest s =
         let x = getD (m .general) i 0 in
-        piece-goes (eqb x 0) (generalBody i x) (Entry.General i x) (length ram) 2 i (suc i) refl refl (omega arith)
-        (λ e. general-is-read i x (length ram) h (omega arith) (ty .general i)) book at rest
+        piece-goes book (length ram) (Goes book (length ram)) (Goes book (length ram)) (eqb x 0) (generalBody i x) (Entry.General i x) 2 i (suc i) refl refl (omega arith)
+        (λ e. general-is-read i x (length ram) h (omega arith) (ty .general i)) at rest s (λ e kind k g. g) (λ e kind k y p l g. goes-over book (length ram) at kind k y (Entry.General i x) p l g)
 
     lines-go : (i : ℕ) → 0 ≤ i → i < length tags → (at : ℕ) (rest : List ℕ) → Suffix book at (linePiece ram tags i ++ rest)
         → ((kind k : ℕ) → Upto 3 (RAM-BASE + suc i * 32) kind k → Goes book (length ram) (at + length (linePiece ram tags i)) kind k)
         → (kind k : ℕ) → Upto 3 (RAM-BASE + i * 32) kind k → Goes book (length ram) at kind k
     unfolding linePiece
-    lines-go i g h at rest =
+    lines-go i g h at rest s =
         let a = RAM-BASE + i * 32 in
         let r : i * 32 + 32 ≤ length ram = omega (arith, lines .0, h) in
         let q : i < 2048 = omega (arith, lines .1, h) in
-        piece-goes (not (tagOf tags i) && zeroBytes (lineBytes ram i)) (lineBody a (tagOf tags i) (lineBytes ram i)) (Entry.Line a (tagOf tags i)) (length ram) 3 a (RAM-BASE + suc i * 32)
+        piece-goes book (length ram) (Goes book (length ram)) (Goes book (length ram)) (not (tagOf tags i) && zeroBytes (lineBytes ram i)) (lineBody a (tagOf tags i) (lineBytes ram i)) (Entry.Line a (tagOf tags i)) 3 a (RAM-BASE + suc i * 32)
         refl refl (omega arith)
         (λ e. line-is-read a (tagOf tags i) (lineBytes ram i) (length ram) (sym (line-within a (length ram) (omega arith) (omega arith) (omega arith) (omega (arith, r)))) (omega (arith, q))
         (bytes-32 ram tags i r q) (loaded-top ram tags i r q (line-top (m .caps) (m .pcc) (m .pending) (getD (m .general) 0 0) ram tags v i h)))
-        book at rest
+        at rest s (λ e kind k g. g) (λ e kind k x p l g. goes-over book (length ram) at kind k x (Entry.Line a (tagOf tags i)) p l g)
 
   starts : Upto 1 0 0 0
   starts = record { kinds = omega arith; follows = λ next h. sym (rises 0 0 1 next (omega arith)) }
@@ -94,13 +94,13 @@ module _ (m : Machine) (ram tags : List ℕ) (ty : Typed m) (v : start.Verdict.A
     on-lines at s kind k u =
         let s′ : Suffix book at (pieces (length tags) 0 (linePiece ram tags) ++ []) = subst (λ (l : List ℕ). Suffix book at l) (sym (append-nil (pieces (length tags) 0 (linePiece ram tags)))) s in
         let end = further book at (pieces (length tags) 0 (linePiece ram tags)) [] s′ in
-        pieces-go book (length ram) 3 0 (length tags) (λ i. RAM-BASE + i * 32) (linePiece ram tags) (lines-go book) (length tags) 0 at [] (omega arith) (omega arith) s′
+        pieces-go book 3 0 (length tags) (λ i. RAM-BASE + i * 32) (linePiece ram tags) (λ i. Goes book (length ram)) (lines-go book) (length tags) 0 at [] (omega arith) (omega arith) s′
         (λ kind k u. goes-end book (length ram) (at + length (pieces (length tags) 0 (linePiece ram tags))) kind k (ends book _ end)) kind k u
 
     on-generals : (at : ℕ) → Suffix book at (generalPieces (m .general) ++ linePieces ram tags) → (kind k : ℕ) → Upto 2 1 kind k → Goes book (length ram) at kind k
     unfolding generalPieces
     on-generals at s =
-        pieces-go book (length ram) 2 1 32 (λ i. i) (λ i. generalPiece i (getD (m .general) i 0)) (generals-go book) 31 1 at (linePieces ram tags) (omega arith) (omega arith) s
+        pieces-go book 2 1 32 (λ i. i) (λ i. generalPiece i (getD (m .general) i 0)) (λ i. Goes book (length ram)) (generals-go book) 31 1 at (linePieces ram tags) (omega arith) (omega arith) s
         (λ kind k u. on-lines _ (further book at (generalPieces (m .general)) (linePieces ram tags) s) kind k (upto-next 2 3 32 RAM-BASE kind k (omega arith) u))
 
     on-pcc : (at : ℕ) → Suffix book at (capPiece 32 (m .pcc) ++ (generalPieces (m .general) ++ linePieces ram tags)) → (kind k : ℕ) → Upto 1 32 kind k → Goes book (length ram) at kind k
@@ -113,7 +113,7 @@ module _ (m : Machine) (ram tags : List ℕ) (ty : Typed m) (v : start.Verdict.A
     unfolding capPieces
     on-caps at s =
         let rest = capPiece 32 (m .pcc) ++ (generalPieces (m .general) ++ linePieces ram tags) in
-        pieces-go book (length ram) 1 0 32 (λ i. i) (λ i. capPiece i (getD (m .caps) i null)) (caps-go book) 32 0 at rest (omega arith) (omega arith) s
+        pieces-go book 1 0 32 (λ i. i) (λ i. capPiece i (getD (m .caps) i null)) (λ i. Goes book (length ram)) (caps-go book) 32 0 at rest (omega arith) (omega arith) s
         (λ kind k u. on-pcc _ (further book at (capPieces (m .caps)) rest s) kind k u)
 
   pub book-accepted : checkBook (bookOf m ram tags) (length ram) ≡ Verdict.Accepted
