@@ -62,26 +62,34 @@ upto-next K K′ b b′ kind key h u =
 
 -- One piece: nothing, or a record that is found. `Before` and `After` say what holds at a place, after a record of a kind and key:
 -- a walk that keeps a state says by them what it has then.
+pub record Passes (book : List ℕ) (ram : ℕ) (absent : Bool) (body : List ℕ) (entry : Entry) (Before After : ℕ → ℕ → ℕ → Type 0) : Type 0 where
+  pub skip : absent ≡ true → (at kind key : ℕ) → After at kind key → Before at kind key
+  pub over : absent ≡ false → (at : ℕ) (rest : List ℕ) → Suffix book at (recordOf body ++ rest)
+      → (kind key x : ℕ) → stepAt book ram at kind key ≡ Step.More x entry → at < x → After x (kindOf entry) (keyOf entry) → Before at kind key
+
+-- where a walk accepts after a piece, it accepts before it
+pub accepts : (book : List ℕ) (ram : ℕ) (absent : Bool) (body : List ℕ) (entry : Entry) → Passes book ram absent body entry (Goes book ram) (Goes book ram)
+accepts book ram absent body entry =
+    record { skip = λ e at kind key g. g; over = λ e at rest s kind key x p l g. goes-over book ram at kind key x entry p l g }
+
 module _ (book : List ℕ) (ram : ℕ) (Before After : ℕ → ℕ → ℕ → Type 0) where
   pub piece-goes : (t : Bool) (body : List ℕ) (entry : Entry) (K b b′ : ℕ) → kindOf entry ≡ K → keyOf entry ≡ b → b < b′ → (t ≡ false → Found body ram entry)
-      → (at : ℕ) (rest : List ℕ) → Suffix book at (cond t [] (recordOf body) ++ rest)
-      → (t ≡ true → (kind key : ℕ) → After at kind key → Before at kind key)
-      → (t ≡ false → (kind key x : ℕ) → stepAt book ram at kind key ≡ Step.More x entry → at < x → After x (kindOf entry) (keyOf entry) → Before at kind key)
+      → Passes book ram t body entry Before After → (at : ℕ) (rest : List ℕ) → Suffix book at (cond t [] (recordOf body) ++ rest)
       → ((kind key : ℕ) → Upto K b′ kind key → After (at + length (cond t [] (recordOf body))) kind key)
       → (kind key : ℕ) → Upto K b kind key → Before at kind key
-  piece-goes true body entry K b b′ ek eb h f at rest s skip over after kind key u =
+  piece-goes true body entry K b b′ ek eb h f q at rest s after kind key u =
       let z : at + 0 ≡ at = omega arith in
-      skip refl kind key (subst (λ (x : ℕ). After x kind key) z (after kind key (upto-more K b b′ kind key (omega arith) u)))
-  piece-goes false body entry K b b′ ek eb h f at rest s skip over after kind key u =
+      q .skip refl at kind key (subst (λ (x : ℕ). After x kind key) z (after kind key (upto-more K b b′ kind key (omega arith) u)))
+  piece-goes false body entry K b b′ ek eb h f q at rest s after kind key u =
       let o : inOrder kind key (kindOf entry) (keyOf entry) ≡ true = rw (ek, eb) (u .follows b (omega arith)) in
       let p : stepAt book ram at kind key ≡ Step.More (at + length (recordOf body)) entry = rw (s .split, ← s .place) (f refl (s .before) rest kind key o) in
-      over refl kind key (at + length (recordOf body)) p (omega (arith, record-end body at)) (rw (ek, eb) (after K b (upto-own K b b′ h)))
+      q .over refl at rest s kind key (at + length (recordOf body)) p (omega (arith, record-end body at)) (rw (ek, eb) (after K b (upto-own K b b′ h)))
 
 -- pieces one after the other; `Holds i` is what holds before piece i
 module _ (book : List ℕ) (K low last : ℕ) (key : ℕ → ℕ) (piece : ℕ → List ℕ) (Holds : ℕ → ℕ → ℕ → ℕ → Type 0)
     (one : (i : ℕ) → low ≤ i → i < last → (at : ℕ) (rest : List ℕ) → Suffix book at (piece i ++ rest)
-      → ((kind k : ℕ) → Upto K (key (suc i)) kind k → Holds (suc i) (at + length (piece i)) kind k)
-      → (kind k : ℕ) → Upto K (key i) kind k → Holds i at kind k) where
+    → ((kind k : ℕ) → Upto K (key (suc i)) kind k → Holds (suc i) (at + length (piece i)) kind k)
+    → (kind k : ℕ) → Upto K (key i) kind k → Holds i at kind k) where
   pub pieces-go : (n i at : ℕ) (rest : List ℕ) → low ≤ i → i + n ≤ last → Suffix book at (pieces n i piece ++ rest)
       → ((kind k : ℕ) → Upto K (key (i + n)) kind k → Holds (i + n) (at + length (pieces n i piece)) kind k)
       → (kind k : ℕ) → Upto K (key i) kind k → Holds i at kind k
@@ -98,6 +106,6 @@ module _ (book : List ℕ) (K low last : ℕ) (key : ℕ → ℕ) (piece : ℕ �
       one i g (omega arith) at (P ++ rest) s′
       (pieces-go n (suc i) (at + length (piece i)) rest (omega arith) (omega arith) (further book at (piece i) (P ++ rest) s′)
       (λ kind k u.
-        subst (λ (x : ℕ). Holds x (at + length (piece i) + length P) kind k) (sym y)
-        (subst (λ (x : ℕ). Holds (i + suc n) x kind k) z (after kind k (subst (λ (x : ℕ). Upto K (key x) kind k) y u)))))
+      subst (λ (x : ℕ). Holds x (at + length (piece i) + length P) kind k) (sym y)
+      (subst (λ (x : ℕ). Holds (i + suc n) x kind k) z (after kind k (subst (λ (x : ℕ). Upto K (key x) kind k) y u)))))
       kind₀ k₀ u₀

@@ -27,101 +27,120 @@ use Rattle.write.specs.Write.{pieces, capPiece, generalPiece, lineBytes, linePi
 use Rattle.write.proofs.Books.{lines-there}
 use Rattle.reread.specs.Claims.{Typed, WrittenIsAccepted}
 use Rattle.reread.proofs.Entries.{cap-is-read, general-is-read, line-is-read}
-use Rattle.reread.proofs.Walked.{Suffix, further, Goes, goes-end, goes-over, Upto, upto-next, piece-goes, pieces-go}
+use Rattle.reread.proofs.Walked.{Suffix, further, Goes, goes-end, Upto, upto-next, Passes, accepts, piece-goes, pieces-go}
 use Rattle.reread.proofs.Accepted.{cap-top, pcc-top, cap-width, pcc-width, line-top, within, bytes-32, loaded-top}
 
 ends : (book : List ℕ) (at : ℕ) → Suffix book at [] → length book ≤ at
 ends book at s = omega (arith, ap length (s .split ∙ append-nil (s .before)), s .place)
 
 module _ (m : Machine) (ram tags : List ℕ) (ty : Typed m) (v : start.Verdict.Accepted ≡ verdictOf (m .caps) (m .pcc) (m .pending) (getD (m .general) 0 0) 0 ram tags) where
-  lines : (length tags * 32 ≤ length ram) × (length tags ≤ 2048)
-  lines = lines-there (m .caps) (m .pcc) (m .pending) (getD (m .general) 0 0) ram tags v
+  there : (length tags * 32 ≤ length ram) × (length tags ≤ 2048)
+  there = lines-there (m .caps) (m .pcc) (m .pending) (getD (m .general) 0 0) ram tags v
 
-  -- one register, one line
-  module _ (book : List ℕ) where
-    cap-goes : (number : ℕ) (c : Cap) → number ≤ 32 → Within c → topFits c ≡ true → (at : ℕ) (rest : List ℕ) → Suffix book at (capPiece number c ++ rest)
-        → ((kind k : ℕ) → Upto 1 (suc number) kind k → Goes book (length ram) (at + length (capPiece number c)) kind k)
-        → (kind k : ℕ) → Upto 1 number kind k → Goes book (length ram) at kind k
+  -- A walk over the written book, by what holds before each record: `Caps i` before capability register i, `Caps 32` before PCC, `Generals i` before
+  -- general register i, `Lines i` before line i.
+  abbrev r : ℕ
+  r = length ram
+
+  abbrev cap-at : ℕ → Cap
+  cap-at i = getD (m .caps) i null
+
+  abbrev general-at : ℕ → ℕ
+  general-at i = getD (m .general) i 0
+
+  abbrev bare : ℕ → Bool
+  bare i = not (tagOf tags i) && zeroBytes (lineBytes ram i)
+
+  abbrev address : ℕ → ℕ
+  address i = RAM-BASE + i * 32
+
+  abbrev line-body : ℕ → List ℕ
+  line-body i = lineBody (address i) (tagOf tags i) (lineBytes ram i)
+
+  module _ (book : List ℕ) (Caps Generals Lines : ℕ → ℕ → ℕ → ℕ → Type 0)
+      (caps : (i : ℕ) → i < 32 → Passes book r (zeroCap (cap-at i)) (capBody i (cap-at i)) (Entry.Capability i (cap-at i)) (Caps i) (Caps (suc i)))
+      (pcc : Passes book r (zeroCap (m .pcc)) (capBody 32 (m .pcc)) (Entry.Capability 32 (m .pcc)) (Caps 32) (Generals 1))
+      (generals : (i : ℕ) → 1 ≤ i → i < 32 → Passes book r (eqb (general-at i) 0) (generalBody i (general-at i)) (Entry.General i (general-at i)) (Generals i) (Generals (suc i)))
+      (turn : (at kind k : ℕ) → Lines 0 at kind k → Generals 32 at kind k)
+      (lines : (i : ℕ) → i < length tags → Passes book r (bare i) (line-body i) (Entry.Line (address i) (tagOf tags i)) (Lines i) (Lines (suc i)))
+      (end : (at kind k : ℕ) → length book ≤ at → Lines (length tags) at kind k) where
+    one-cap : (i : ℕ) → 0 ≤ i → i < 32 → (at : ℕ) (rest : List ℕ) → Suffix book at (capPiece i (cap-at i) ++ rest)
+        → ((kind k : ℕ) → Upto 1 (suc i) kind k → Caps (suc i) (at + length (capPiece i (cap-at i))) kind k) → (kind k : ℕ) → Upto 1 i kind k → Caps i at kind k
     unfolding capPiece
-    cap-goes number c h w t at rest s =
-        piece-goes book (length ram) (Goes book (length ram)) (Goes book (length ram)) (zeroCap c) (capBody number c) (Entry.Capability number c) 1 number (suc number) refl refl (omega arith)
-        (λ e. cap-is-read number c (length ram) h w t) at rest s (λ e kind k g. g) (λ e kind k x p l g. goes-over book (length ram) at kind k x (Entry.Capability number c) p l g)
+    one-cap i g h =
+        piece-goes book r (Caps i) (Caps (suc i)) (zeroCap (cap-at i)) (capBody i (cap-at i)) (Entry.Capability i (cap-at i)) 1 i (suc i) refl refl (omega arith)
+        (λ e. cap-is-read i (cap-at i) r (omega arith) (within (cap-at i) (ty .caps i) (cap-width (m .caps) (m .pcc) (m .pending) (general-at 0) ram tags v i h))
+        (cap-top (m .caps) (m .pcc) (m .pending) (general-at 0) ram tags v i h))
+        (caps i h)
 
-    caps-go : (i : ℕ) → 0 ≤ i → i < 32 → (at : ℕ) (rest : List ℕ) → Suffix book at (capPiece i (getD (m .caps) i null) ++ rest)
-        → ((kind k : ℕ) → Upto 1 (suc i) kind k → Goes book (length ram) (at + length (capPiece i (getD (m .caps) i null))) kind k)
-        → (kind k : ℕ) → Upto 1 i kind k → Goes book (length ram) at kind k
-    caps-go i g h =
-        cap-goes i (getD (m .caps) i null) (omega arith) (within (getD (m .caps) i null) (ty .caps i) (cap-width (m .caps) (m .pcc) (m .pending) (getD (m .general) 0 0) ram tags v i h))
-        (cap-top (m .caps) (m .pcc) (m .pending) (getD (m .general) 0 0) ram tags v i h)
+    the-pcc : (at : ℕ) (rest : List ℕ) → Suffix book at (capPiece 32 (m .pcc) ++ rest)
+        → ((kind k : ℕ) → Upto 1 33 kind k → Generals 1 (at + length (capPiece 32 (m .pcc))) kind k) → (kind k : ℕ) → Upto 1 32 kind k → Caps 32 at kind k
+    unfolding capPiece
+    the-pcc =
+        piece-goes book r (Caps 32) (Generals 1) (zeroCap (m .pcc)) (capBody 32 (m .pcc)) (Entry.Capability 32 (m .pcc)) 1 32 33 refl refl (omega arith)
+        (λ e. cap-is-read 32 (m .pcc) r (omega arith) (within (m .pcc) (ty .pcc) (pcc-width (m .caps) (m .pcc) (m .pending) (general-at 0) ram tags v))
+        (pcc-top (m .caps) (m .pcc) (m .pending) (general-at 0) ram tags v))
+        pcc
 
-    pcc-goes : (at : ℕ) (rest : List ℕ) → Suffix book at (capPiece 32 (m .pcc) ++ rest)
-        → ((kind k : ℕ) → Upto 1 33 kind k → Goes book (length ram) (at + length (capPiece 32 (m .pcc))) kind k)
-        → (kind k : ℕ) → Upto 1 32 kind k → Goes book (length ram) at kind k
-    pcc-goes =
-        cap-goes 32 (m .pcc) (omega arith) (within (m .pcc) (ty .pcc) (pcc-width (m .caps) (m .pcc) (m .pending) (getD (m .general) 0 0) ram tags v))
-        (pcc-top (m .caps) (m .pcc) (m .pending) (getD (m .general) 0 0) ram tags v)
-
-    generals-go : (i : ℕ) → 1 ≤ i → i < 32 → (at : ℕ) (rest : List ℕ) → Suffix book at (generalPiece i (getD (m .general) i 0) ++ rest)
-        → ((kind k : ℕ) → Upto 2 (suc i) kind k → Goes book (length ram) (at + length (generalPiece i (getD (m .general) i 0))) kind k)
-        → (kind k : ℕ) → Upto 2 i kind k → Goes book (length ram) at kind k
+    one-general : (i : ℕ) → 1 ≤ i → i < 32 → (at : ℕ) (rest : List ℕ) → Suffix book at (generalPiece i (general-at i) ++ rest)
+        → ((kind k : ℕ) → Upto 2 (suc i) kind k → Generals (suc i) (at + length (generalPiece i (general-at i))) kind k) → (kind k : ℕ) → Upto 2 i kind k → Generals i at kind k
     unfolding generalPiece
-    generals-go i h l at rest s =
-        let x = getD (m .general) i 0 in
-        piece-goes book (length ram) (Goes book (length ram)) (Goes book (length ram)) (eqb x 0) (generalBody i x) (Entry.General i x) 2 i (suc i) refl refl (omega arith)
-        (λ e. general-is-read i x (length ram) h (omega arith) (ty .general i)) at rest s (λ e kind k g. g) (λ e kind k y p l g. goes-over book (length ram) at kind k y (Entry.General i x) p l g)
+    one-general i h l =
+        piece-goes book r (Generals i) (Generals (suc i)) (eqb (general-at i) 0) (generalBody i (general-at i)) (Entry.General i (general-at i)) 2 i (suc i) refl refl (omega arith)
+        (λ e. general-is-read i (general-at i) r h (omega arith) (ty .general i)) (generals i h l)
 
-    lines-go : (i : ℕ) → 0 ≤ i → i < length tags → (at : ℕ) (rest : List ℕ) → Suffix book at (linePiece ram tags i ++ rest)
-        → ((kind k : ℕ) → Upto 3 (RAM-BASE + suc i * 32) kind k → Goes book (length ram) (at + length (linePiece ram tags i)) kind k)
-        → (kind k : ℕ) → Upto 3 (RAM-BASE + i * 32) kind k → Goes book (length ram) at kind k
+    one-line : (i : ℕ) → 0 ≤ i → i < length tags → (at : ℕ) (rest : List ℕ) → Suffix book at (linePiece ram tags i ++ rest)
+        → ((kind k : ℕ) → Upto 3 (address (suc i)) kind k → Lines (suc i) (at + length (linePiece ram tags i)) kind k) → (kind k : ℕ) → Upto 3 (address i) kind k → Lines i at kind k
     unfolding linePiece
-    lines-go i g h at rest s =
-        let a = RAM-BASE + i * 32 in
-        let r : i * 32 + 32 ≤ length ram = omega (arith, lines .0, h) in
-        let q : i < 2048 = omega (arith, lines .1, h) in
-        piece-goes book (length ram) (Goes book (length ram)) (Goes book (length ram)) (not (tagOf tags i) && zeroBytes (lineBytes ram i)) (lineBody a (tagOf tags i) (lineBytes ram i)) (Entry.Line a (tagOf tags i)) 3 a (RAM-BASE + suc i * 32)
-        refl refl (omega arith)
-        (λ e. line-is-read a (tagOf tags i) (lineBytes ram i) (length ram) (sym (line-within a (length ram) (omega arith) (omega arith) (omega arith) (omega (arith, r)))) (omega (arith, q))
-        (bytes-32 ram tags i r q) (loaded-top ram tags i r q (line-top (m .caps) (m .pcc) (m .pending) (getD (m .general) 0 0) ram tags v i h)))
-        at rest s (λ e kind k g. g) (λ e kind k x p l g. goes-over book (length ram) at kind k x (Entry.Line a (tagOf tags i)) p l g)
+    one-line i g h =
+        let q : i * 32 + 32 ≤ length ram = omega (arith, there .0, h) in
+        let l : i < 2048 = omega (arith, there .1, h) in
+        piece-goes book r (Lines i) (Lines (suc i)) (bare i) (line-body i) (Entry.Line (address i) (tagOf tags i)) 3 (address i) (address (suc i)) refl refl (omega arith)
+        (λ e. line-is-read (address i) (tagOf tags i) (lineBytes ram i) r
+        (sym (line-within (address i) r (omega arith) (omega arith) (omega arith) (omega (arith, q)))) (omega (arith, l))
+        (bytes-32 ram tags i q l) (loaded-top ram tags i q l (line-top (m .caps) (m .pcc) (m .pending) (general-at 0) ram tags v i h)))
+        (lines i h)
 
-  starts : Upto 1 0 0 0
-  starts = record { kinds = omega arith; follows = λ next h. sym (rises 0 0 1 next (omega arith)) }
-
-  -- each kind's records, from the place where they begin
-  module _ (book : List ℕ) where
-    on-lines : (at : ℕ) → Suffix book at (linePieces ram tags) → (kind k : ℕ) → Upto 3 RAM-BASE kind k → Goes book (length ram) at kind k
+    -- each kind's records, from the place where they begin
+    on-lines : (at : ℕ) → Suffix book at (linePieces ram tags) → (kind k : ℕ) → Upto 3 RAM-BASE kind k → Lines 0 at kind k
     unfolding linePieces
-    on-lines at s kind k u =
-        let s′ : Suffix book at (pieces (length tags) 0 (linePiece ram tags) ++ []) = subst (λ (l : List ℕ). Suffix book at l) (sym (append-nil (pieces (length tags) 0 (linePiece ram tags)))) s in
-        let end = further book at (pieces (length tags) 0 (linePiece ram tags)) [] s′ in
-        pieces-go book 3 0 (length tags) (λ i. RAM-BASE + i * 32) (linePiece ram tags) (λ i. Goes book (length ram)) (lines-go book) (length tags) 0 at [] (omega arith) (omega arith) s′
-        (λ kind k u. goes-end book (length ram) (at + length (pieces (length tags) 0 (linePiece ram tags))) kind k (ends book _ end)) kind k u
+    on-lines at s =
+        let P = pieces (length tags) 0 (linePiece ram tags) in
+        let s′ : Suffix book at (P ++ []) = subst (λ (l : List ℕ). Suffix book at l) (sym (append-nil P)) s in
+        let z : 0 + length tags ≡ length tags = omega arith in
+        pieces-go book 3 0 (length tags) address (linePiece ram tags) Lines one-line (length tags) 0 at [] (omega arith) (omega arith) s′
+        (λ kind k u. subst (λ (x : ℕ). Lines x (at + length P) kind k) (sym z) (end (at + length P) kind k (ends book (at + length P) (further book at P [] s′))))
 
-    on-generals : (at : ℕ) → Suffix book at (generalPieces (m .general) ++ linePieces ram tags) → (kind k : ℕ) → Upto 2 1 kind k → Goes book (length ram) at kind k
+    on-generals : (at : ℕ) → Suffix book at (generalPieces (m .general) ++ linePieces ram tags) → (kind k : ℕ) → Upto 2 1 kind k → Generals 1 at kind k
     unfolding generalPieces
     on-generals at s =
-        pieces-go book 2 1 32 (λ i. i) (λ i. generalPiece i (getD (m .general) i 0)) (λ i. Goes book (length ram)) (generals-go book) 31 1 at (linePieces ram tags) (omega arith) (omega arith) s
-        (λ kind k u. on-lines _ (further book at (generalPieces (m .general)) (linePieces ram tags) s) kind k (upto-next 2 3 32 RAM-BASE kind k (omega arith) u))
-
-    on-pcc : (at : ℕ) → Suffix book at (capPiece 32 (m .pcc) ++ (generalPieces (m .general) ++ linePieces ram tags)) → (kind k : ℕ) → Upto 1 32 kind k → Goes book (length ram) at kind k
-    on-pcc at s =
-        pcc-goes book at (generalPieces (m .general) ++ linePieces ram tags) s
-        (λ kind k u. on-generals _ (further book at (capPiece 32 (m .pcc)) (generalPieces (m .general) ++ linePieces ram tags) s) kind k (upto-next 1 2 33 1 kind k (omega arith) u))
+        pieces-go book 2 1 32 (λ i. i) (λ i. generalPiece i (general-at i)) Generals one-general 31 1 at (linePieces ram tags) (omega arith) (omega arith) s
+        (λ kind k u. turn _ kind k (on-lines _ (further book at (generalPieces (m .general)) (linePieces ram tags) s) kind k (upto-next 2 3 32 RAM-BASE kind k (omega arith) u)))
 
     on-caps : (at : ℕ) → Suffix book at (capPieces (m .caps) ++ (capPiece 32 (m .pcc) ++ (generalPieces (m .general) ++ linePieces ram tags)))
-        → (kind k : ℕ) → Upto 1 0 kind k → Goes book (length ram) at kind k
+        → (kind k : ℕ) → Upto 1 0 kind k → Caps 0 at kind k
     unfolding capPieces
     on-caps at s =
-        let rest = capPiece 32 (m .pcc) ++ (generalPieces (m .general) ++ linePieces ram tags) in
-        pieces-go book 1 0 32 (λ i. i) (λ i. capPiece i (getD (m .caps) i null)) (λ i. Goes book (length ram)) (caps-go book) 32 0 at rest (omega arith) (omega arith) s
-        (λ kind k u. on-pcc _ (further book at (capPieces (m .caps)) rest s) kind k u)
+        let rest = generalPieces (m .general) ++ linePieces ram tags in
+        let s′ = further book at (capPieces (m .caps)) (capPiece 32 (m .pcc) ++ rest) s in
+        pieces-go book 1 0 32 (λ i. i) (λ i. capPiece i (cap-at i)) Caps one-cap 32 0 at (capPiece 32 (m .pcc) ++ rest) (omega arith) (omega arith) s
+        (λ kind k u. the-pcc _ rest s′
+        (λ kind k u. on-generals _ (further book _ (capPiece 32 (m .pcc)) rest s′) kind k (upto-next 1 2 33 1 kind k (omega arith) u)) kind k u)
+
+    pub book-walk : book ≡ bookOf m ram tags → Caps 0 1 0 0
+    unfolding bookOf
+    book-walk e =
+        on-caps 1 (record { before = 1 ∷ []; split = e; place = refl }) 0 0
+        (record { kinds = omega arith; follows = λ next h. sym (rises 0 0 1 next (omega arith)) })
 
   pub book-accepted : checkBook (bookOf m ram tags) (length ram) ≡ Verdict.Accepted
   unfolding bookOf
   book-accepted =
       let book = bookOf m ram tags in
-      sym (check-start book (length ram) (λ e. omega arith) refl)
-      ∙ on-caps book 1 (record { before = 1 ∷ []; split = refl; place = refl }) 0 0 starts (length book) (omega arith)
+      let G : ℕ → ℕ → ℕ → ℕ → Type 0 = λ i. Goes book r in
+      sym (check-start book r (λ e. omega arith) refl)
+      ∙ book-walk book G G G (λ i h. accepts book r _ _ _) (accepts book r _ _ _) (λ i h l. accepts book r _ _ _) (λ at kind k g. g) (λ i h. accepts book r _ _ _)
+      (λ at kind k h. goes-end book r at kind k h) refl (length book) (omega arith)
 
 -- what a written book tells of the answer
 answered : (a b : Bool) (book out : List ℕ) (n : ℕ) → cond a (cond b (refused Refusal.Room out) (wholly book out)) (refused Refusal.Waiting out) .written ≡ Written.Book n
