@@ -27,7 +27,7 @@ cond-true : (t r : Bool) → cond t r false ≡ true → (t ≡ true) × (r ≡ 
 cond-true true r e = (refl, e)
 cond-true false r e = let z : _≡_ {A = ℕ} 0 1 = cc in absurd (omega arith)
 
-each : (n i : ℕ) (p : ℕ → Bool) → every n i p ≡ true → (j : ℕ) → i ≤ j → j < i + n → p j ≡ true
+pub each : (n i : ℕ) (p : ℕ → Bool) → every n i p ≡ true → (j : ℕ) → i ≤ j → j < i + n → p j ≡ true
 unfolding every
 each zero i p e j h k = absurd (omega arith)
 each (suc n) i p e j h k = go (eqb i j) refl (λ l. each n (suc i) p (cond-true (p i) (every n (suc i) p) e .1) j l (omega arith))
@@ -36,7 +36,7 @@ each (suc n) i p e j h k = go (eqb i j) refl (λ l. each n (suc i) p (cond-true 
     go true z later = subst (λ (x : ℕ). p x ≡ true) (eqb-true i j z) (cond-true (p i) (every n (suc i) p) e .0)
     go false z later = later (omega (arith, eqb-false i j z))
 
-both-true : (a b : Bool) → (a && b) ≡ true → (a ≡ true) × (b ≡ true)
+pub both-true : (a b : Bool) → (a && b) ≡ true → (a ≡ true) × (b ≡ true)
 both-true true b e = (refl, e)
 both-true false b e = let z : _≡_ {A = ℕ} 0 1 = cc in absurd (omega arith)
 

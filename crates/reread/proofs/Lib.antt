@@ -3,3 +3,4 @@ pub mod Entries
 pub mod Walked
 pub mod Accepted
 pub mod Written
+pub mod Filled
