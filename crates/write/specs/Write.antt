@@ -38,7 +38,7 @@ linePiece ram tags line =
     cond (not (tagOf tags line) && zeroBytes (lineBytes ram line)) []
     (recordOf (lineBody (RAM-BASE + line * 32) (tagOf tags line) (lineBytes ram line)))
 
--- byte 0 is version 1; kinds ascend, and within a kind the number or address; PCC is number 32
+-- within a kind the number or address ascends: registers 0 to 31, 1 to 31, and every line
 unfoldable pub capPieces : List Cap → List ℕ
 capPieces caps = pieces 32 0 (λ i. capPiece i (getD caps i null))
 
@@ -48,6 +48,7 @@ generalPieces general = pieces 31 1 (λ i. generalPiece i (getD general i 0))
 unfoldable pub linePieces : List ℕ → List ℕ → List ℕ
 linePieces ram tags = pieces (length tags) 0 (linePiece ram tags)
 
+-- byte 0 is version 1, then the kinds ascend; PCC is number 32 of kind 1
 unfoldable pub bookOf : Machine → List ℕ → List ℕ → List ℕ
 bookOf m ram tags = 1 ∷ (capPieces (m .caps) ++ (capPiece 32 (m .pcc) ++ (generalPieces (m .general) ++ linePieces ram tags)))
 
