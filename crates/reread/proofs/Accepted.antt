@@ -7,8 +7,8 @@ use native.Mathlib.Omega.{arith}
 use lib.Dec.{eqb, leb, ltb}
 use lib.ListN.{length, getD, take, drop, length-drop}
 use lib.Seq.{length-take-le}
-use borrow.Author.Tests.{le-leb, lt-leb, le-ltb, ltb-true, eqb-true, eqb-false}
-use Rattle.mem.specs.Place.{RAM-BASE, placeOf, bytesOf}
+use borrow.Author.Tests.{le-leb, lt-leb, le-ltb, ltb-true, ltb-false, not-true, eqb-true, eqb-false}
+use Rattle.mem.specs.Place.{RAM-BASE, memoryFits, tagsFit, placeOf, bytesOf}
 use Rattle.mem.specs.Store.{tagOf, tagAt}
 use Rattle.mem.specs.declared.Place.{Place}
 use Rattle.cap.specs.declared.Cap.{Cap}
@@ -42,25 +42,37 @@ both-true false b e = let z : _≡_ {A = ℕ} 0 1 = cc in absurd (omega arith)
 
 -- an accepted start passed every test
 tests : (a b d e : Bool) → Verdict.Accepted ≡ cond a (cond b (cond d (cond e Verdict.Accepted (Verdict.Refused Refusal.Width)) (Verdict.Refused Refusal.Top)) (Verdict.Refused Refusal.TagByte)) (Verdict.Refused Refusal.Sizes)
-    → (d ≡ true) × (e ≡ true)
-tests true true true true q = (refl, refl)
+    → (a ≡ true) × (b ≡ true) × (d ≡ true) × (e ≡ true)
+tests true true true true q = (refl, refl, refl, refl)
 tests true true true false q = let z : _≡_ {A = ℕ} 0 1 = cc in absurd (omega arith)
 tests true true false e q = let z : _≡_ {A = ℕ} 0 1 = cc in absurd (omega arith)
 tests true false d e q = let z : _≡_ {A = ℕ} 0 1 = cc in absurd (omega arith)
 tests false b d e q = let z : _≡_ {A = ℕ} 0 1 = cc in absurd (omega arith)
 
 module _ (caps : List Cap) (pcc : Cap) (pending : Pending) (first : ℕ) (ram tags : List ℕ) (v : Verdict.Accepted ≡ verdictOf caps pcc pending first 0 ram tags) where
-  passed : (((capsFit caps && (topFits pcc && jumpFits pending)) && linesFit ram tags) ≡ true) × (((widthsFit caps && (widthFits pcc && jumpWidth pending)) && eqb first 0) ≡ true)
+  passed : (sizesFit 0 (length ram) (length tags) ≡ true) × (tagBytesFit tags ≡ true) × (((capsFit caps && (topFits pcc && jumpFits pending)) && linesFit ram tags) ≡ true) × (((widthsFit caps && (widthFits pcc && jumpWidth pending)) && eqb first 0) ≡ true)
   unfolding verdictOf
   passed =
       tests (sizesFit 0 (length ram) (length tags)) (tagBytesFit tags) ((capsFit caps && (topFits pcc && jumpFits pending)) && linesFit ram tags)
       ((widthsFit caps && (widthFits pcc && jumpWidth pending)) && eqb first 0) v
 
+  pub tag-low : (i : ℕ) → i < length tags → getD tags i 0 ≤ 1
+  tag-low i h = ltb-false 1 (getD tags i 0) (not-true (ltb 1 (getD tags i 0)) (each (length tags) 0 (λ j. not (ltb 1 (getD tags j 0))) (passed .1) i (omega arith) (omega arith)))
+
+  pub whole-lines : length ram ≡ length tags * 32
+  whole-lines =
+      let a = both-true (memoryFits 0 && memoryFits (length ram)) (tagsFit (length ram) (length tags)) (passed .0) in
+      let b = both-true (eqb (length ram % 32) 0) (leb (length ram) 65536) (both-true (memoryFits 0) (memoryFits (length ram)) (a .0) .1) in
+      omega (arith, eqb-true (length tags) (length ram / 32) (a .1), eqb-true (length ram % 32) 0 (b .0))
+
+  pub first-zero : first ≡ 0
+  first-zero = eqb-true first 0 (both-true (widthsFit caps && (widthFits pcc && jumpWidth pending)) (eqb first 0) (passed .3) .1)
+
   tops : ((capsFit caps && (topFits pcc && jumpFits pending)) ≡ true) × (linesFit ram tags ≡ true)
-  tops = both-true (capsFit caps && (topFits pcc && jumpFits pending)) (linesFit ram tags) (passed .0)
+  tops = both-true (capsFit caps && (topFits pcc && jumpFits pending)) (linesFit ram tags) (passed .2)
 
   widths : (widthsFit caps && (widthFits pcc && jumpWidth pending)) ≡ true
-  widths = both-true (widthsFit caps && (widthFits pcc && jumpWidth pending)) (eqb first 0) (passed .1) .0
+  widths = both-true (widthsFit caps && (widthFits pcc && jumpWidth pending)) (eqb first 0) (passed .3) .0
 
   pub cap-top : (i : ℕ) → i < 32 → topFits (getD caps i null) ≡ true
   cap-top i h = each 32 0 (λ j. topFits (getD caps j null)) (both-true (capsFit caps) (topFits pcc && jumpFits pending) (tops .0) .0) i (omega arith) (omega arith)

@@ -65,12 +65,12 @@ upto-next K K′ b b′ kind key h u =
 pub record Passes (book : List ℕ) (ram : ℕ) (absent : Bool) (body : List ℕ) (entry : Entry) (Before After : ℕ → ℕ → ℕ → Type 0) : Type 0 where
   pub skip : absent ≡ true → (at kind key : ℕ) → After at kind key → Before at kind key
   pub over : absent ≡ false → (at : ℕ) (rest : List ℕ) → Suffix book at (recordOf body ++ rest)
-      → (kind key x : ℕ) → stepAt book ram at kind key ≡ Step.More x entry → at < x → After x (kindOf entry) (keyOf entry) → Before at kind key
+      → (kind key x : ℕ) → x ≡ at + length (recordOf body) → stepAt book ram at kind key ≡ Step.More x entry → at < x → After x (kindOf entry) (keyOf entry) → Before at kind key
 
 -- where a walk accepts after a piece, it accepts before it
 pub accepts : (book : List ℕ) (ram : ℕ) (absent : Bool) (body : List ℕ) (entry : Entry) → Passes book ram absent body entry (Goes book ram) (Goes book ram)
 accepts book ram absent body entry =
-    record { skip = λ e at kind key g. g; over = λ e at rest s kind key x p l g. goes-over book ram at kind key x entry p l g }
+    record { skip = λ e at kind key g. g; over = λ e at rest s kind key x q p l g. goes-over book ram at kind key x entry p l g }
 
 module _ (book : List ℕ) (ram : ℕ) (Before After : ℕ → ℕ → ℕ → Type 0) where
   pub piece-goes : (t : Bool) (body : List ℕ) (entry : Entry) (K b b′ : ℕ) → kindOf entry ≡ K → keyOf entry ≡ b → b < b′ → (t ≡ false → Found body ram entry)
@@ -83,7 +83,7 @@ module _ (book : List ℕ) (ram : ℕ) (Before After : ℕ → ℕ → ℕ → T
   piece-goes false body entry K b b′ ek eb h f q at rest s after kind key u =
       let o : inOrder kind key (kindOf entry) (keyOf entry) ≡ true = rw (ek, eb) (u .follows b (omega arith)) in
       let p : stepAt book ram at kind key ≡ Step.More (at + length (recordOf body)) entry = rw (s .split, ← s .place) (f refl (s .before) rest kind key o) in
-      q .over refl at rest s kind key (at + length (recordOf body)) p (omega (arith, record-end body at)) (rw (ek, eb) (after K b (upto-own K b b′ h)))
+      q .over refl at rest s kind key (at + length (recordOf body)) refl p (omega (arith, record-end body at)) (rw (ek, eb) (after K b (upto-own K b b′ h)))
 
 -- pieces one after the other; `Holds i` is what holds before piece i
 module _ (book : List ℕ) (K low last : ℕ) (key : ℕ → ℕ) (piece : ℕ → List ℕ) (Holds : ℕ → ℕ → ℕ → ℕ → Type 0)
