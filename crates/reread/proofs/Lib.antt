@@ -4,3 +4,4 @@ pub mod Walked
 pub mod Accepted
 pub mod Written
 pub mod Filled
+pub mod Again

@@ -34,7 +34,7 @@ ends : (book : List ℕ) (at : ℕ) → Suffix book at [] → length book ≤ at
 ends book at s = omega (arith, ap length (s .split ∙ append-nil (s .before)), s .place)
 
 module _ (m : Machine) (ram tags : List ℕ) (ty : Typed m) (v : start.Verdict.Accepted ≡ verdictOf (m .caps) (m .pcc) (m .pending) (getD (m .general) 0 0) 0 ram tags) where
-  there : (length tags * 32 ≤ length ram) × (length tags ≤ 2048)
+  pub there : (length tags * 32 ≤ length ram) × (length tags ≤ 2048)
   there = lines-there (m .caps) (m .pcc) (m .pending) (getD (m .general) 0 0) ram tags v
 
   -- A walk over the written book, by what holds before each record: `Caps i` before capability register i, `Caps 32` before PCC, `Generals i` before
@@ -154,7 +154,7 @@ module _ (m : Machine) (ram tags out : List ℕ) (n : ℕ) where
   unfolding afterStart
   rested = answered (rests m) (ltb (length out) (length (bookOf m ram tags))) (bookOf m ram tags) out n
 
-  judged : (v : start.Verdict) → afterVerdict m ram tags out v .written ≡ Written.Book n
+  pub judged : (v : start.Verdict) → afterVerdict m ram tags out v .written ≡ Written.Book n
       → (start.Verdict.Accepted ≡ v) × (length (bookOf m ram tags) ≡ n) × (afterVerdict m ram tags out v .out ≡ bookOf m ram tags ++ drop (length (bookOf m ram tags)) out)
   judged start.Verdict.Accepted e = let f = rested e in (refl, f .0, f .1)
   judged (start.Verdict.Refused r) e = let z : _≡_ {A = ℕ} 0 1 = cc in absurd (omega arith)
