@@ -6,12 +6,13 @@ use mathlib.Core.List.{List, [], _∷_, _++_}
 use native.Mathlib.Omega.{arith}
 use lib.Dec.{eqb}
 use lib.ListN.{length, getD, set, take, drop, replicate, length-replicate, getD-replicate}
-use lib.Seq.{take-at}
 use borrow.Author.Tests.{le-leb, eqb-true, eqb-false, ne-eqb, not-true}
 use Rattle.mem.specs.Place.{RAM-BASE}
 use Rattle.mem.specs.Store.{bit, put, tagOf, withTag}
 use Rattle.cap.specs.declared.Cap.{Cap}
 use Rattle.cap.specs.Narrow.{null}
+use Rattle.perform.specs.declared.Pending.{Pending}
+use Rattle.perform.specs.Fetch.{isPending}
 use Rattle.accept.specs.declared.Verdict as start
 use Rattle.accept.specs.Accept.{verdictOf}
 use Rattle.state.specs.declared.Machine.{Machine}
@@ -22,13 +23,13 @@ use Rattle.book.specs.Book.{kindOf, keyOf, afterHead, stepAt}
 use Rattle.book.proofs.Walks.{more-fits}
 use Rattle.compose.specs.Compose.{recordOf, capBody, generalBody, lineBody, zeroCap, zeroBytes}
 use Rattle.compose.proofs.Fields.{line-bytes}
-use Rattle.write.specs.Write.{lineBytes, bookOf, writeBook}
+use Rattle.write.specs.Write.{lineBytes, bookOf, rests}
 use Rattle.reread.specs.Claims.{Typed}
-use Rattle.reread.specs.Entered.{Entered, entered, enter, enterAll, zeros, WrittenIsEntered}
+use Rattle.reread.specs.Entered.{Entered, entered, enter, enterAll, zeros, said, machineOf, Says, WrittenIsSaid}
 use Rattle.reread.proofs.Walked.{Suffix, Passes}
 use Rattle.reread.proofs.Accepted.{both-true, tag-low, whole-lines, first-zero, bytes-32}
 use Rattle.reread.proofs.Filled.{filled, filled-set, filled-same, filled-all, filled-put, filled-part, zero-cap, zero-part, line-bytes-at}
-use Rattle.reread.proofs.Written.{there, book-walk, judged}
+use Rattle.reread.proofs.Written.{there, book-walk, taken}
 
 done : (n : ℕ) (book : List ℕ) (ram : ℕ) (s : Entered) → enterAll n book ram Step.Done s ≡ s
 unfolding enterAll
@@ -100,10 +101,10 @@ module _ (m : Machine) (ram tags : List ℕ) (ty : Typed m) (lc : length (m .cap
       let k : i < length (m .caps) = omega (arith, lc) in
       record {
         skip = λ e at kind key g.
-          subst (λ (l : List Cap). At (entered l null zg zr zt) at kind key) (sym (filled-same (m .caps) nulls lc′ null i k (getD-replicate 32 i null null h ∙ sym (zero-cap c e)))) g;
+            subst (λ (l : List Cap). At (entered l null zg zr zt) at kind key) (sym (filled-same (m .caps) nulls lc′ null i k (getD-replicate 32 i null null h ∙ sym (zero-cap c e)))) g;
         over = λ e at rest s kind key x q p l g.
-          over (entered (filled (m .caps) nulls i) null zg zr zt) at kind key x (Entry.Capability i c) p
-          (rw (ne-eqb i 32 (λ z. omega arith), filled-set (m .caps) nulls lc′ null i k) g);
+            over (entered (filled (m .caps) nulls i) null zg zr zt) at kind key x (Entry.Capability i c) p
+            (rw (ne-eqb i 32 (λ z. omega arith), filled-set (m .caps) nulls lc′ null i k) g);
       }
 
   first-same : zg ≡ filled (m .general) zg 1
@@ -115,8 +116,8 @@ module _ (m : Machine) (ram tags : List ℕ) (ty : Typed m) (lc : length (m .cap
       record {
         skip = λ e at kind key g. rw (a, first-same) (subst (λ (c : Cap). At (entered (m .caps) c (filled (m .general) zg 1) zr zt) at kind key) (zero-cap (m .pcc) e) g);
         over = λ e at rest s kind key x q p l g.
-          over (entered (filled (m .caps) nulls 32) null zg zr zt) at kind key x (Entry.Capability 32 (m .pcc)) p
-          (subst (λ (c : List Cap). At (entered c (m .pcc) zg zr zt) x 1 32) (sym a) (subst (λ (y : List ℕ). At (entered (m .caps) (m .pcc) y zr zt) x 1 32) (sym first-same) g));
+            over (entered (filled (m .caps) nulls 32) null zg zr zt) at kind key x (Entry.Capability 32 (m .pcc)) p
+            (subst (λ (c : List Cap). At (entered c (m .pcc) zg zr zt) x 1 32) (sym a) (subst (λ (y : List ℕ). At (entered (m .caps) (m .pcc) y zr zt) x 1 32) (sym first-same) g));
       }
 
   general-passes : (i : ℕ) → 1 ≤ i → i < 32 → Passes book (length ram) (eqb (getD (m .general) i 0) 0) (generalBody i (getD (m .general) i 0)) (Entry.General i (getD (m .general) i 0)) (Generals i) (Generals (suc i))
@@ -125,10 +126,10 @@ module _ (m : Machine) (ram tags : List ℕ) (ty : Typed m) (lc : length (m .cap
       let k : i < length (m .general) = omega (arith, lg) in
       record {
         skip = λ e at kind key g.
-          subst (λ (l : List ℕ). At (entered (m .caps) (m .pcc) l zr zt) at kind key) (sym (filled-same (m .general) zg lg′ 0 i k (getD-replicate 32 i 0 0 h ∙ sym (eqb-true y 0 e)))) g;
+            subst (λ (l : List ℕ). At (entered (m .caps) (m .pcc) l zr zt) at kind key) (sym (filled-same (m .general) zg lg′ 0 i k (getD-replicate 32 i 0 0 h ∙ sym (eqb-true y 0 e)))) g;
         over = λ e at rest s kind key x q p l g.
-          over (entered (m .caps) (m .pcc) (filled (m .general) zg i) zr zt) at kind key x (Entry.General i y) p
-          (subst (λ (l : List ℕ). At (entered (m .caps) (m .pcc) l zr zt) x 2 i) (sym (filled-set (m .general) zg lg′ 0 i k)) g);
+            over (entered (m .caps) (m .pcc) (filled (m .general) zg i) zr zt) at kind key x (Entry.General i y) p
+            (subst (λ (l : List ℕ). At (entered (m .caps) (m .pcc) l zr zt) x 2 i) (sym (filled-set (m .general) zg lg′ 0 i k)) g);
       }
 
   line-passes : (i : ℕ) → i < length tags
@@ -148,23 +149,23 @@ module _ (m : Machine) (ram tags : List ℕ) (ty : Typed m) (lc : length (m .cap
       let d : i * 32 / 32 ≡ i = omega arith in
       record {
         skip = λ e at kind key g.
-          let f = both-true (not t) (zeroBytes (lineBytes ram i)) e in
-          let y : filled tags zt i ≡ filled tags zt (suc i) =
-              filled-same tags zt et 0 i h (getD-replicate (length tags) i 0 0 h ∙ no-tag tags i low (not-true t (f .0))) in
-          let x : filled ram zr (i * 32) ≡ filled ram zr (i * 32 + 32) = filled-part ram zr er (i * 32) 32 r (zero-part ram (i * 32) 32 r (f .1)) in
-          subst (λ (l : List ℕ). At (entered (m .caps) (m .pcc) (m .general) l (filled tags zt i)) at kind key) (ap (filled ram zr) z ∙ sym x)
-          (subst (λ (l : List ℕ). At (entered (m .caps) (m .pcc) (m .general) (filled ram zr (suc i * 32)) l) at kind key) (sym y) g);
+            let f = both-true (not t) (zeroBytes (lineBytes ram i)) e in
+            let y : filled tags zt i ≡ filled tags zt (suc i) =
+            filled-same tags zt et 0 i h (getD-replicate (length tags) i 0 0 h ∙ no-tag tags i low (not-true t (f .0))) in
+            let x : filled ram zr (i * 32) ≡ filled ram zr (i * 32 + 32) = filled-part ram zr er (i * 32) 32 r (zero-part ram (i * 32) 32 r (f .1)) in
+            subst (λ (l : List ℕ). At (entered (m .caps) (m .pcc) (m .general) l (filled tags zt i)) at kind key) (ap (filled ram zr) z ∙ sym x)
+            (subst (λ (l : List ℕ). At (entered (m .caps) (m .pcc) (m .general) (filled ram zr (suc i * 32)) l) at kind key) (sym y) g);
         over = λ e at rest s kind key x q p l g.
-          let n : x - 32 ≡ at + 12 = omega (arith, q, line-bytes a t (lineBytes ram i), bytes-32 ram tags i r k) in
-          let bytes : take 32 (drop (x - 32) book) ≡ lineBytes ram i =
-              ap (λ (j : ℕ). take 32 (drop j book)) n ∙ line-bytes-at book at a t (lineBytes ram i) rest (bytes-32 ram tags i r k) s in
-          let put-there : put (filled ram zr (i * 32)) (a - RAM-BASE) (take 32 (drop (x - 32) book)) ≡ filled ram zr (suc i * 32) =
-              rw (b, bytes, z) (filled-put ram zr er (i * 32) 32 r) in
-          let tag-there : set (filled tags zt i) ((a - RAM-BASE) / 32) (bit t) ≡ filled tags zt (suc i) =
-              rw (b, d, tag-byte tags i low) (filled-set tags zt et 0 i h) in
-          over (entered (m .caps) (m .pcc) (m .general) (filled ram zr (i * 32)) (filled tags zt i)) at kind key x (Entry.Line a t) p
-          (subst (λ (y : List ℕ). At (entered (m .caps) (m .pcc) (m .general) y (set (filled tags zt i) ((a - RAM-BASE) / 32) (bit t))) x 3 a) (sym put-there)
-          (subst (λ (y : List ℕ). At (entered (m .caps) (m .pcc) (m .general) (filled ram zr (suc i * 32)) y) x 3 a) (sym tag-there) g));
+            let n : x - 32 ≡ at + 12 = omega (arith, q, line-bytes a t (lineBytes ram i), bytes-32 ram tags i r k) in
+            let bytes : take 32 (drop (x - 32) book) ≡ lineBytes ram i =
+            ap (λ (j : ℕ). take 32 (drop j book)) n ∙ line-bytes-at book at a t (lineBytes ram i) rest (bytes-32 ram tags i r k) s in
+            let put-there : put (filled ram zr (i * 32)) (a - RAM-BASE) (take 32 (drop (x - 32) book)) ≡ filled ram zr (suc i * 32) =
+            rw (b, bytes, z) (filled-put ram zr er (i * 32) 32 r) in
+            let tag-there : set (filled tags zt i) ((a - RAM-BASE) / 32) (bit t) ≡ filled tags zt (suc i) =
+            rw (b, d, tag-byte tags i low) (filled-set tags zt et 0 i h) in
+            over (entered (m .caps) (m .pcc) (m .general) (filled ram zr (i * 32)) (filled tags zt i)) at kind key x (Entry.Line a t) p
+            (subst (λ (y : List ℕ). At (entered (m .caps) (m .pcc) (m .general) y (set (filled tags zt i) ((a - RAM-BASE) / 32) (bit t))) x 3 a) (sym put-there)
+            (subst (λ (y : List ℕ). At (entered (m .caps) (m .pcc) (m .general) (filled ram zr (suc i * 32)) y) x 3 a) (sym tag-there) g));
       }
 
   turns : (at kind key : ℕ) → Lines 0 at kind key → Generals 32 at kind key
@@ -184,9 +185,20 @@ module _ (m : Machine) (ram tags : List ℕ) (ty : Typed m) (lc : length (m .cap
       → enterAll n book (length ram) (stepAt book (length ram) 1 0 0) (zeros (length ram) (length tags)) ≡ entered (m .caps) (m .pcc) (m .general) ram tags
   book-entered = book-walk m ram tags ty v book Caps Generals Lines cap-passes pcc-passes general-passes turns line-passes ended refl
 
-pub written-is-entered : WrittenIsEntered
-unfolding writeBook
-written-is-entered m ram tags out n ty lc lg e =
-    let f = judged m ram tags out n (verdictOf (m .caps) (m .pcc) (m .pending) (getD (m .general) 0 0) 0 ram tags) e in
+-- nothing is pending
+quiet : (p : Pending) → not (isPending p) ≡ true → Pending.Quiet ≡ p
+quiet Pending.Quiet e = refl
+quiet (Pending.Jump c) e = let z : _≡_ {A = ℕ} 0 1 = cc in absurd (omega arith)
+
+resting : (m : Machine) (ram tags : List ℕ) → rests m ≡ true → machineOf (entered (m .caps) (m .pcc) (m .general) ram tags) ≡ m
+resting m ram tags e =
+    let f = both-true (not (isPending (m .pending))) (eqb (m .cause) 0) e in
+    λ i. record { general = m .general; caps = m .caps; pcc = m .pcc; pending = quiet (m .pending) (f .0) i; cause = sym (eqb-true (m .cause) 0 (f .1)) i }
+
+pub written-is-said : WrittenIsSaid
+written-is-said m ram tags out n ty lc lg e =
+    let f = taken m ram tags out n e in
     let book = bookOf m ram tags in
-    rw (f .2, take-at book (drop (length book) out) n (f .1)) (book-entered m ram tags ty lc lg (f .0) n (omega (arith, f .1)))
+    let p : said book (length ram) (length tags) ≡ entered (m .caps) (m .pcc) (m .general) ram tags = book-entered m ram tags ty lc lg (f .0) (length book) (omega arith) in
+    subst (λ (b : List ℕ). Says b m ram tags) (sym (f .2))
+    (record { registers = ap machineOf p ∙ resting m ram tags (f .1); bytes = ap (λ (s : Entered). s .ram) p; lines = ap (λ (s : Entered). s .tags) p })

@@ -144,24 +144,30 @@ module _ (m : Machine) (ram tags : List ℕ) (ty : Typed m) (v : start.Verdict.A
 
 -- what a written book tells of the answer
 answered : (a b : Bool) (book out : List ℕ) (n : ℕ) → cond a (cond b (refused Refusal.Room out) (wholly book out)) (refused Refusal.Waiting out) .written ≡ Written.Book n
-    → (length book ≡ n) × (cond a (cond b (refused Refusal.Room out) (wholly book out)) (refused Refusal.Waiting out) .out ≡ book ++ drop (length book) out)
-answered true false book out n e = (cc, refl)
+    → (a ≡ true) × (length book ≡ n) × (cond a (cond b (refused Refusal.Room out) (wholly book out)) (refused Refusal.Waiting out) .out ≡ book ++ drop (length book) out)
+answered true false book out n e = (refl, cc, refl)
 answered true true book out n e = let z : _≡_ {A = ℕ} 0 1 = cc in absurd (omega arith)
 answered false b book out n e = let z : _≡_ {A = ℕ} 0 1 = cc in absurd (omega arith)
 
 module _ (m : Machine) (ram tags out : List ℕ) (n : ℕ) where
-  rested : afterStart m ram tags out .written ≡ Written.Book n → (length (bookOf m ram tags) ≡ n) × (afterStart m ram tags out .out ≡ bookOf m ram tags ++ drop (length (bookOf m ram tags)) out)
+  rested : afterStart m ram tags out .written ≡ Written.Book n
+      → (rests m ≡ true) × (length (bookOf m ram tags) ≡ n) × (afterStart m ram tags out .out ≡ bookOf m ram tags ++ drop (length (bookOf m ram tags)) out)
   unfolding afterStart
   rested = answered (rests m) (ltb (length out) (length (bookOf m ram tags))) (bookOf m ram tags) out n
 
-  pub judged : (v : start.Verdict) → afterVerdict m ram tags out v .written ≡ Written.Book n
-      → (start.Verdict.Accepted ≡ v) × (length (bookOf m ram tags) ≡ n) × (afterVerdict m ram tags out v .out ≡ bookOf m ram tags ++ drop (length (bookOf m ram tags)) out)
-  judged start.Verdict.Accepted e = let f = rested e in (refl, f .0, f .1)
+  judged : (v : start.Verdict) → afterVerdict m ram tags out v .written ≡ Written.Book n
+      → (start.Verdict.Accepted ≡ v) × (rests m ≡ true) × (length (bookOf m ram tags) ≡ n) × (afterVerdict m ram tags out v .out ≡ bookOf m ram tags ++ drop (length (bookOf m ram tags)) out)
+  judged start.Verdict.Accepted e = let f = rested e in (refl, f .0, f .1, f .2)
   judged (start.Verdict.Refused r) e = let z : _≡_ {A = ℕ} 0 1 = cc in absurd (omega arith)
 
-pub written-is-accepted : WrittenIsAccepted
+-- exactly the book is taken
+pub taken : (m : Machine) (ram tags out : List ℕ) (n : ℕ) → writeBook m ram tags out .written ≡ Written.Book n
+    → (start.Verdict.Accepted ≡ verdictOf (m .caps) (m .pcc) (m .pending) (getD (m .general) 0 0) 0 ram tags) × (rests m ≡ true) × (take n (writeBook m ram tags out .out) ≡ bookOf m ram tags)
 unfolding writeBook
-written-is-accepted m ram tags out n ty e =
+taken m ram tags out n e =
     let f = judged m ram tags out n (verdictOf (m .caps) (m .pcc) (m .pending) (getD (m .general) 0 0) 0 ram tags) e in
     let book = bookOf m ram tags in
-    rw (f .2, take-at book (drop (length book) out) n (f .1)) (book-accepted m ram tags ty (f .0))
+    (f .0, f .1, ap (take n) (f .3) ∙ take-at book (drop (length book) out) n (f .2))
+
+pub written-is-accepted : WrittenIsAccepted
+written-is-accepted m ram tags out n ty e = let f = taken m ram tags out n e in rw (f .2) (book-accepted m ram tags ty (f .0))

@@ -9,6 +9,7 @@ use Rattle.mem.specs.Place.{RAM-BASE}
 use Rattle.mem.specs.Store.{put, withTag}
 use Rattle.cap.specs.declared.Cap.{Cap}
 use Rattle.cap.specs.Narrow.{null}
+use Rattle.perform.specs.declared.Pending.{Pending}
 use Rattle.state.specs.declared.Machine.{Machine}
 use Rattle.record.specs.declared.Entry.{Entry}
 use Rattle.book.specs.declared.Step.{Step}
@@ -47,9 +48,22 @@ enterAll (suc n) book ram (Step.More end entry) s = enterAll n book ram (stepAt 
 abbrev pub zeros : ℕ → ℕ → Entered
 zeros ram tags = entered (replicate 32 null) null (replicate 32 0) (replicate ram 0) (replicate tags 0)
 
--- whenever the writer writes a book, its records say the same registers, RAM and tags
-abbrev pub WrittenIsEntered : Type 0
-WrittenIsEntered =
+-- what a book says, for a RAM of so many bytes and so many tags
+abbrev pub said : List ℕ → ℕ → ℕ → Entered
+said book ram tags = enterAll (length book) book ram (stepAt book ram 1 0 0) (zeros ram tags)
+
+-- nothing is pending and the cause is 0
+abbrev pub machineOf : Entered → Machine
+machineOf s = record { general = s .general; caps = s .caps; pcc = s .pcc; pending = Pending.Quiet; cause = 0 }
+
+-- a machine, a RAM and tags that a book says
+pub record Says (book : List ℕ) (m : Machine) (ram tags : List ℕ) : Type 0 where
+  pub registers : machineOf (said book (length ram) (length tags)) ≡ m
+  pub bytes : said book (length ram) (length tags) .ram ≡ ram
+  pub lines : said book (length ram) (length tags) .tags ≡ tags
+
+-- whenever the writer writes a book, those bytes say the same machine, RAM and tags
+abbrev pub WrittenIsSaid : Type 0
+WrittenIsSaid =
     (m : Machine) (ram tags out : List ℕ) (n : ℕ) → Typed m → length (m .caps) ≡ 32 → length (m .general) ≡ 32 → writeBook m ram tags out .written ≡ Written.Book n
-    → enterAll n (take n (writeBook m ram tags out .out)) (length ram) (stepAt (take n (writeBook m ram tags out .out)) (length ram) 1 0 0) (zeros (length ram) (length tags))
-    ≡ entered (m .caps) (m .pcc) (m .general) ram tags
+    → Says (take n (writeBook m ram tags out .out)) m ram tags
