@@ -59,6 +59,9 @@ module _ (caps : List Cap) (pcc : Cap) (pending : Pending) (first : ℕ) (ram ta
   pub tag-low : (i : ℕ) → i < length tags → getD tags i 0 ≤ 1
   tag-low i h = ltb-false 1 (getD tags i 0) (not-true (ltb 1 (getD tags i 0)) (each (length tags) 0 (λ j. not (ltb 1 (getD tags j 0))) (passed .1) i (omega arith) (omega arith)))
 
+  pub sizes-fit : sizesFit 0 (length ram) (length tags) ≡ true
+  sizes-fit = passed .0
+
   pub whole-lines : length ram ≡ length tags * 32
   whole-lines =
       let a = both-true (memoryFits 0 && memoryFits (length ram)) (tagsFit (length ram) (length tags)) (passed .0) in

@@ -1,4 +1,4 @@
--- The records of a written book say the machine, the RAM and the tags that were written. Assumes nothing.
+-- The records of a written book give back the machine, the RAM and the tags that were written. Assumes nothing.
 use Prim.Native.Nat.{ℕ, zero, suc, _+_, _-_, _*_, _/_, _≤_, _<_}
 use mathlib.Core.Path.{_≡_, refl, sym, _∙_, ap, subst}
 use mathlib.Core.Bool.{Bool, true, false, cond, not, _&&_}
@@ -7,7 +7,7 @@ use native.Mathlib.Omega.{arith}
 use lib.Dec.{eqb}
 use lib.ListN.{length, getD, set, take, drop, replicate, length-replicate, getD-replicate}
 use borrow.Author.Tests.{le-leb, eqb-true, eqb-false, ne-eqb, not-true}
-use Rattle.mem.specs.Place.{RAM-BASE}
+use Rattle.mem.specs.Place.{RAM-BASE, memoryFits, tagsFit}
 use Rattle.mem.specs.Store.{bit, put, tagOf, withTag}
 use Rattle.cap.specs.declared.Cap.{Cap}
 use Rattle.cap.specs.Narrow.{null}
@@ -19,19 +19,24 @@ use Rattle.state.specs.declared.Machine.{Machine}
 use Rattle.record.specs.declared.Entry.{Entry}
 use Rattle.record.specs.Record.{headAt}
 use Rattle.book.specs.declared.Step.{Step}
+use Rattle.book.specs.declared.Verdict.{Verdict}
 use Rattle.book.specs.Book.{kindOf, keyOf, afterHead, stepAt}
 use Rattle.book.proofs.Walks.{more-fits}
 use Rattle.compose.specs.Compose.{recordOf, capBody, generalBody, lineBody, zeroCap, zeroBytes}
 use Rattle.compose.proofs.Fields.{line-bytes}
 use Rattle.write.specs.Write.{lineBytes, bookOf, rests}
-use Rattle.reread.specs.Claims.{Typed}
-use Rattle.reread.specs.Entered.{Entered, entered, enter, enterAll, zeros, said, machineOf, Says, WrittenIsSaid}
+use Rattle.enter.specs.Enter.{Start, entered, machineWith, ramWith, tagsWith, enterAll, enterBook, bare, judged, readBook}
+use Rattle.reread.specs.Claims.{Typed, WrittenAndRead}
 use Rattle.reread.proofs.Walked.{Suffix, Passes}
-use Rattle.reread.proofs.Accepted.{both-true, tag-low, whole-lines, first-zero, bytes-32}
+use Rattle.reread.proofs.Accepted.{both-true, sizes-fit, tag-low, whole-lines, first-zero, bytes-32}
 use Rattle.reread.proofs.Filled.{filled, filled-set, filled-same, filled-all, filled-put, filled-part, zero-cap, zero-part, line-bytes-at}
-use Rattle.reread.proofs.Written.{there, book-walk, taken}
+use Rattle.reread.proofs.Written.{there, book-walk, book-accepted, taken}
 
-done : (n : ℕ) (book : List ℕ) (ram : ℕ) (s : Entered) → enterAll n book ram Step.Done s ≡ s
+-- nothing pending, and no cause
+abbrev with : List Cap → Cap → List ℕ → List ℕ → List ℕ → Start
+with caps pcc general ram tags = record { machine = record { general = general; caps = caps; pcc = pcc; pending = Pending.Quiet; cause = 0 }; ram = ram; tags = tags }
+
+done : (n : ℕ) (book : List ℕ) (ram : ℕ) (s : Start) → enterAll n book ram Step.Done s ≡ s
 unfolding enterAll
 done zero book ram s = refl
 done (suc n) book ram s = refl
@@ -71,23 +76,23 @@ module _ (m : Machine) (ram tags : List ℕ) (ty : Typed m) (lc : length (m .cap
   zt = replicate (length tags) 0
 
   -- from here on the records say the rest
-  abbrev At : Entered → ℕ → ℕ → ℕ → Type 0
-  At s at kind key = (n : ℕ) → length book ≤ n + at → enterAll n book (length ram) (stepAt book (length ram) at kind key) s ≡ entered (m .caps) (m .pcc) (m .general) ram tags
+  abbrev At : Start → ℕ → ℕ → ℕ → Type 0
+  At s at kind key = (n : ℕ) → length book ≤ n + at → enterAll n book (length ram) (stepAt book (length ram) at kind key) s ≡ with (m .caps) (m .pcc) (m .general) ram tags
 
-  over : (s : Entered) (at kind key x : ℕ) (e : Entry) → stepAt book (length ram) at kind key ≡ Step.More x e → At (enter book s x e) x (kindOf e) (keyOf e) → At s at kind key
+  over : (s : Start) (at kind key x : ℕ) (e : Entry) → stepAt book (length ram) at kind key ≡ Step.More x e → At (entered book x e s) x (kindOf e) (keyOf e) → At s at kind key
   unfolding enterAll
   over s at kind key x e p g zero k = let f = more-fits book (length ram) at kind key x e (sym p) in absurd (omega (arith, f .0, f .1))
   over s at kind key x e p g (suc n) k = let f = more-fits book (length ram) at kind key x e (sym p) in rw p (g n (omega (arith, f .0)))
 
   -- what was entered before each record
   abbrev Caps : ℕ → ℕ → ℕ → ℕ → Type 0
-  Caps i = At (entered (filled (m .caps) nulls i) null zg zr zt)
+  Caps i = At (with (filled (m .caps) nulls i) null zg zr zt)
 
   abbrev Generals : ℕ → ℕ → ℕ → ℕ → Type 0
-  Generals i = At (entered (m .caps) (m .pcc) (filled (m .general) zg i) zr zt)
+  Generals i = At (with (m .caps) (m .pcc) (filled (m .general) zg i) zr zt)
 
   abbrev Lines : ℕ → ℕ → ℕ → ℕ → Type 0
-  Lines i = At (entered (m .caps) (m .pcc) (m .general) (filled ram zr (i * 32)) (filled tags zt i))
+  Lines i = At (with (m .caps) (m .pcc) (m .general) (filled ram zr (i * 32)) (filled tags zt i))
 
   lc′ : length nulls ≡ length (m .caps)
   lc′ = length-replicate 32 null ∙ sym lc
@@ -96,14 +101,15 @@ module _ (m : Machine) (ram tags : List ℕ) (ty : Typed m) (lc : length (m .cap
   lg′ = length-replicate {A = ℕ} 32 0 ∙ sym lg
 
   cap-passes : (i : ℕ) → i < 32 → Passes book (length ram) (zeroCap (getD (m .caps) i null)) (capBody i (getD (m .caps) i null)) (Entry.Capability i (getD (m .caps) i null)) (Caps i) (Caps (suc i))
+  unfolding machineWith ramWith tagsWith
   cap-passes i h =
       let c = getD (m .caps) i null in
       let k : i < length (m .caps) = omega (arith, lc) in
       record {
         skip = λ e at kind key g.
-            subst (λ (l : List Cap). At (entered l null zg zr zt) at kind key) (sym (filled-same (m .caps) nulls lc′ null i k (getD-replicate 32 i null null h ∙ sym (zero-cap c e)))) g;
+            subst (λ (l : List Cap). At (with l null zg zr zt) at kind key) (sym (filled-same (m .caps) nulls lc′ null i k (getD-replicate 32 i null null h ∙ sym (zero-cap c e)))) g;
         over = λ e at rest s kind key x q p l g.
-            over (entered (filled (m .caps) nulls i) null zg zr zt) at kind key x (Entry.Capability i c) p
+            over (with (filled (m .caps) nulls i) null zg zr zt) at kind key x (Entry.Capability i c) p
             (rw (ne-eqb i 32 (λ z. omega arith), filled-set (m .caps) nulls lc′ null i k) g);
       }
 
@@ -111,30 +117,32 @@ module _ (m : Machine) (ram tags : List ℕ) (ty : Typed m) (lc : length (m .cap
   first-same = filled-same (m .general) zg lg′ 0 0 (omega (arith, lg)) (sym (first-zero (m .caps) (m .pcc) (m .pending) (getD (m .general) 0 0) ram tags v))
 
   pcc-passes : Passes book (length ram) (zeroCap (m .pcc)) (capBody 32 (m .pcc)) (Entry.Capability 32 (m .pcc)) (Caps 32) (Generals 1)
+  unfolding machineWith ramWith tagsWith
   pcc-passes =
       let a = filled-all (m .caps) nulls lc′ null 32 (omega (arith, lc)) in
       record {
-        skip = λ e at kind key g. rw (a, first-same) (subst (λ (c : Cap). At (entered (m .caps) c (filled (m .general) zg 1) zr zt) at kind key) (zero-cap (m .pcc) e) g);
+        skip = λ e at kind key g. rw (a, first-same) (subst (λ (c : Cap). At (with (m .caps) c (filled (m .general) zg 1) zr zt) at kind key) (zero-cap (m .pcc) e) g);
         over = λ e at rest s kind key x q p l g.
-            over (entered (filled (m .caps) nulls 32) null zg zr zt) at kind key x (Entry.Capability 32 (m .pcc)) p
-            (subst (λ (c : List Cap). At (entered c (m .pcc) zg zr zt) x 1 32) (sym a) (subst (λ (y : List ℕ). At (entered (m .caps) (m .pcc) y zr zt) x 1 32) (sym first-same) g));
+            over (with (filled (m .caps) nulls 32) null zg zr zt) at kind key x (Entry.Capability 32 (m .pcc)) p
+            (subst (λ (c : List Cap). At (with c (m .pcc) zg zr zt) x 1 32) (sym a) (subst (λ (y : List ℕ). At (with (m .caps) (m .pcc) y zr zt) x 1 32) (sym first-same) g));
       }
 
   general-passes : (i : ℕ) → 1 ≤ i → i < 32 → Passes book (length ram) (eqb (getD (m .general) i 0) 0) (generalBody i (getD (m .general) i 0)) (Entry.General i (getD (m .general) i 0)) (Generals i) (Generals (suc i))
+  unfolding machineWith ramWith tagsWith
   general-passes i h₁ h =
       let y = getD (m .general) i 0 in
       let k : i < length (m .general) = omega (arith, lg) in
       record {
         skip = λ e at kind key g.
-            subst (λ (l : List ℕ). At (entered (m .caps) (m .pcc) l zr zt) at kind key) (sym (filled-same (m .general) zg lg′ 0 i k (getD-replicate 32 i 0 0 h ∙ sym (eqb-true y 0 e)))) g;
+            subst (λ (l : List ℕ). At (with (m .caps) (m .pcc) l zr zt) at kind key) (sym (filled-same (m .general) zg lg′ 0 i k (getD-replicate 32 i 0 0 h ∙ sym (eqb-true y 0 e)))) g;
         over = λ e at rest s kind key x q p l g.
-            over (entered (m .caps) (m .pcc) (filled (m .general) zg i) zr zt) at kind key x (Entry.General i y) p
-            (subst (λ (l : List ℕ). At (entered (m .caps) (m .pcc) l zr zt) x 2 i) (sym (filled-set (m .general) zg lg′ 0 i k)) g);
+            over (with (m .caps) (m .pcc) (filled (m .general) zg i) zr zt) at kind key x (Entry.General i y) p
+            (subst (λ (l : List ℕ). At (with (m .caps) (m .pcc) l zr zt) x 2 i) (sym (filled-set (m .general) zg lg′ 0 i k)) g);
       }
 
   line-passes : (i : ℕ) → i < length tags
       → Passes book (length ram) (not (tagOf tags i) && zeroBytes (lineBytes ram i)) (lineBody (RAM-BASE + i * 32) (tagOf tags i) (lineBytes ram i)) (Entry.Line (RAM-BASE + i * 32) (tagOf tags i)) (Lines i) (Lines (suc i))
-  unfolding withTag
+  unfolding withTag machineWith ramWith tagsWith
   line-passes i h =
       let t = tagOf tags i in
       let a = RAM-BASE + i * 32 in
@@ -153,8 +161,8 @@ module _ (m : Machine) (ram tags : List ℕ) (ty : Typed m) (lc : length (m .cap
             let y : filled tags zt i ≡ filled tags zt (suc i) =
             filled-same tags zt et 0 i h (getD-replicate (length tags) i 0 0 h ∙ no-tag tags i low (not-true t (f .0))) in
             let x : filled ram zr (i * 32) ≡ filled ram zr (i * 32 + 32) = filled-part ram zr er (i * 32) 32 r (zero-part ram (i * 32) 32 r (f .1)) in
-            subst (λ (l : List ℕ). At (entered (m .caps) (m .pcc) (m .general) l (filled tags zt i)) at kind key) (ap (filled ram zr) z ∙ sym x)
-            (subst (λ (l : List ℕ). At (entered (m .caps) (m .pcc) (m .general) (filled ram zr (suc i * 32)) l) at kind key) (sym y) g);
+            subst (λ (l : List ℕ). At (with (m .caps) (m .pcc) (m .general) l (filled tags zt i)) at kind key) (ap (filled ram zr) z ∙ sym x)
+            (subst (λ (l : List ℕ). At (with (m .caps) (m .pcc) (m .general) (filled ram zr (suc i * 32)) l) at kind key) (sym y) g);
         over = λ e at rest s kind key x q p l g.
             let n : x - 32 ≡ at + 12 = omega (arith, q, line-bytes a t (lineBytes ram i), bytes-32 ram tags i r k) in
             let bytes : take 32 (drop (x - 32) book) ≡ lineBytes ram i =
@@ -163,26 +171,26 @@ module _ (m : Machine) (ram tags : List ℕ) (ty : Typed m) (lc : length (m .cap
             rw (b, bytes, z) (filled-put ram zr er (i * 32) 32 r) in
             let tag-there : set (filled tags zt i) ((a - RAM-BASE) / 32) (bit t) ≡ filled tags zt (suc i) =
             rw (b, d, tag-byte tags i low) (filled-set tags zt et 0 i h) in
-            over (entered (m .caps) (m .pcc) (m .general) (filled ram zr (i * 32)) (filled tags zt i)) at kind key x (Entry.Line a t) p
-            (subst (λ (y : List ℕ). At (entered (m .caps) (m .pcc) (m .general) y (set (filled tags zt i) ((a - RAM-BASE) / 32) (bit t))) x 3 a) (sym put-there)
-            (subst (λ (y : List ℕ). At (entered (m .caps) (m .pcc) (m .general) (filled ram zr (suc i * 32)) y) x 3 a) (sym tag-there) g));
+            over (with (m .caps) (m .pcc) (m .general) (filled ram zr (i * 32)) (filled tags zt i)) at kind key x (Entry.Line a t) p
+            (subst (λ (y : List ℕ). At (with (m .caps) (m .pcc) (m .general) y (set (filled tags zt i) ((a - RAM-BASE) / 32) (bit t))) x 3 a) (sym put-there)
+            (subst (λ (y : List ℕ). At (with (m .caps) (m .pcc) (m .general) (filled ram zr (suc i * 32)) y) x 3 a) (sym tag-there) g));
       }
 
   turns : (at kind key : ℕ) → Lines 0 at kind key → Generals 32 at kind key
   turns at kind key g =
-      subst (λ (l : List ℕ). At (entered (m .caps) (m .pcc) l zr zt) at kind key) (sym (filled-all (m .general) zg lg′ 0 32 (omega (arith, lg)))) g
+      subst (λ (l : List ℕ). At (with (m .caps) (m .pcc) l zr zt) at kind key) (sym (filled-all (m .general) zg lg′ 0 32 (omega (arith, lg)))) g
 
   ended : (at kind key : ℕ) → length book ≤ at → Lines (length tags) at kind key
   ended at kind key h n k =
       let er : length zr ≡ length ram = length-replicate {A = ℕ} (length ram) 0 in
       let et : length zt ≡ length tags = length-replicate {A = ℕ} (length tags) 0 in
       let w = whole-lines (m .caps) (m .pcc) (m .pending) (getD (m .general) 0 0) ram tags v in
-      ap (λ (s : Step). enterAll n book (length ram) s (entered (m .caps) (m .pcc) (m .general) (filled ram zr (length tags * 32)) (filled tags zt (length tags)))) (at-end book (length ram) at kind key h)
-      ∙ done n book (length ram) (entered (m .caps) (m .pcc) (m .general) (filled ram zr (length tags * 32)) (filled tags zt (length tags)))
+      ap (λ (s : Step). enterAll n book (length ram) s (with (m .caps) (m .pcc) (m .general) (filled ram zr (length tags * 32)) (filled tags zt (length tags)))) (at-end book (length ram) at kind key h)
+      ∙ done n book (length ram) (with (m .caps) (m .pcc) (m .general) (filled ram zr (length tags * 32)) (filled tags zt (length tags)))
       ∙ rw (filled-all ram zr er 0 (length tags * 32) (omega (arith, w)), filled-all tags zt et 0 (length tags) (omega arith))
 
   pub book-entered : (n : ℕ) → length book ≤ n + 1
-      → enterAll n book (length ram) (stepAt book (length ram) 1 0 0) (zeros (length ram) (length tags)) ≡ entered (m .caps) (m .pcc) (m .general) ram tags
+      → enterAll n book (length ram) (stepAt book (length ram) 1 0 0) (bare zr zt) ≡ with (m .caps) (m .pcc) (m .general) ram tags
   book-entered = book-walk m ram tags ty v book Caps Generals Lines cap-passes pcc-passes general-passes turns line-passes ended refl
 
 -- nothing is pending
@@ -190,15 +198,33 @@ quiet : (p : Pending) → not (isPending p) ≡ true → Pending.Quiet ≡ p
 quiet Pending.Quiet e = refl
 quiet (Pending.Jump c) e = let z : _≡_ {A = ℕ} 0 1 = cc in absurd (omega arith)
 
-resting : (m : Machine) (ram tags : List ℕ) → rests m ≡ true → machineOf (entered (m .caps) (m .pcc) (m .general) ram tags) ≡ m
+resting : (m : Machine) (ram tags : List ℕ) → rests m ≡ true → with (m .caps) (m .pcc) (m .general) ram tags ≡ record { machine = m; ram = ram; tags = tags }
 resting m ram tags e =
     let f = both-true (not (isPending (m .pending))) (eqb (m .cause) 0) e in
-    λ i. record { general = m .general; caps = m .caps; pcc = m .pcc; pending = quiet (m .pending) (f .0) i; cause = sym (eqb-true (m .cause) 0 (f .1)) i }
+    λ i. record {
+      machine = record { general = m .general; caps = m .caps; pcc = m .pcc; pending = quiet (m .pending) (f .0) i; cause = sym (eqb-true (m .cause) 0 (f .1)) i };
+      ram = ram;
+      tags = tags;
+    }
 
-pub written-is-said : WrittenIsSaid
-written-is-said m ram tags out n ty lc lg e =
+-- a flash of a legal length beside sizes that fit
+sizes : (a b t : Bool) → ((a && b) && t) ≡ true → (flash : Bool) → flash ≡ true → ((flash && b) && t) ≡ true
+sizes a b t e flash f = let p = both-true (a && b) t e in let q = both-true a b (p .0) in rw (f, q .1, p .1)
+
+-- an accepted book is entered over zeros
+read-accepted : (book : List ℕ) (flash : ℕ) (ram tags : List ℕ) → judged book flash (length ram) (length tags) ≡ Verdict.Accepted
+    → readBook book flash ram tags ≡ enterAll (length book) book (length ram) (stepAt book (length ram) 1 0 0) (bare (replicate (length ram) 0) (replicate (length tags) 0))
+unfolding readBook enterBook
+read-accepted book flash ram tags e =
+    rw e (ap (λ (r : ℕ). enterAll (length book) book r (stepAt book r 1 0 0) (bare (replicate (length ram) 0) (replicate (length tags) 0))) (length-replicate {A = ℕ} (length ram) 0))
+
+pub written-and-read : WrittenAndRead
+unfolding judged
+written-and-read m ram tags out n flash ram′ tags′ ty lc lg e ff er et =
     let f = taken m ram tags out n e in
     let book = bookOf m ram tags in
-    let p : said book (length ram) (length tags) ≡ entered (m .caps) (m .pcc) (m .general) ram tags = book-entered m ram tags ty lc lg (f .0) (length book) (omega arith) in
-    subst (λ (b : List ℕ). Says b m ram tags) (sym (f .2))
-    (record { registers = ap machineOf p ∙ resting m ram tags (f .1); bytes = ap (λ (s : Entered). s .ram) p; lines = ap (λ (s : Entered). s .tags) p })
+    let fits = sizes (memoryFits 0) (memoryFits (length ram)) (tagsFit (length ram) (length tags)) (sizes-fit (m .caps) (m .pcc) (m .pending) (getD (m .general) 0 0) ram tags (f .0)) (memoryFits flash) ff in
+    let accepted : judged book flash (length ram′) (length tags′) ≡ Verdict.Accepted = rw (er, et, fits) (book-accepted m ram tags ty (f .0)) in
+    let read : readBook book flash ram′ tags′ ≡ record { machine = m; ram = ram; tags = tags } =
+    read-accepted book flash ram′ tags′ accepted ∙ rw (er, et) (book-entered m ram tags ty lc lg (f .0) (length book) (omega arith) ∙ resting m ram tags (f .1)) in
+    rw (f .2) (accepted, read)

@@ -1,13 +1,16 @@
--- A book that the writer wrote is one that the reader accepts.
+-- A book that the writer wrote is one that the reader accepts, and it gives back what was written.
 use Prim.Native.Nat.{ℕ, _^_, _<_}
 use mathlib.Core.Path.{_≡_}
+use mathlib.Core.Bool.{true}
 use mathlib.Core.List.{List}
 use lib.ListN.{length, getD, take}
+use Rattle.mem.specs.Place.{memoryFits}
 use Rattle.cap.specs.declared.Cap.{Cap}
 use Rattle.cap.specs.Narrow.{null}
 use Rattle.state.specs.declared.Machine.{Machine}
 use Rattle.book.specs.declared.Verdict.{Verdict}
 use Rattle.book.specs.Book.{checkBook}
+use Rattle.enter.specs.Enter.{judged, readBook}
 use Rattle.write.specs.declared.Written.{Written}
 use Rattle.write.specs.Write.{writeBook}
 
@@ -28,3 +31,14 @@ abbrev pub WrittenIsAccepted : Type 0
 WrittenIsAccepted =
     (m : Machine) (ram tags out : List ℕ) (n : ℕ) → Typed m → writeBook m ram tags out .written ≡ Written.Book n
     → checkBook (take n (writeBook m ram tags out .out)) (length ram) ≡ Verdict.Accepted
+
+-- and gives the same machine, RAM and tags, for every flash length that is legal and buffers of the same sizes, whatever they held
+abbrev pub WrittenAndRead : Type 0
+WrittenAndRead =
+    (m : Machine) (ram tags out : List ℕ) (n flash : ℕ) (ram′ tags′ : List ℕ) → Typed m → length (m .caps) ≡ 32 → length (m .general) ≡ 32
+    → writeBook m ram tags out .written ≡ Written.Book n
+    → memoryFits flash ≡ true
+    → length ram′ ≡ length ram
+    → length tags′ ≡ length tags
+    → (judged (take n (writeBook m ram tags out .out)) flash (length ram′) (length tags′) ≡ Verdict.Accepted)
+    × (readBook (take n (writeBook m ram tags out .out)) flash ram′ tags′ ≡ record { machine = m; ram = ram; tags = tags })
