@@ -1,12 +1,14 @@
 -- Steps made one after the other by a shorter way, held to the run's own definition.
 use Prim.Native.Nat.{ℕ, _+_}
 use mathlib.Core.Path.{_≡_}
-use mathlib.Core.Bool.{Bool, cond}
+use mathlib.Core.Bool.{Bool, cond, not, _&&_, _||_}
 use mathlib.Core.List.{List}
+use lib.Dec.{eqb, leb}
 use Rattle.mem.specs.declared.Offset.{Offset}
 use Rattle.mem.specs.Number.{movedBy}
 use Rattle.cap.specs.declared.Cap.{Cap}
 use Rattle.cap.specs.Narrow.{setOffset}
+use Rattle.isa.specs.Word.{major, field25}
 use Rattle.perform.specs.declared.Pending.{Pending}
 use Rattle.state.specs.declared.Machine.{Machine}
 use Rattle.state.specs.Steps.{runFrom}
@@ -16,6 +18,12 @@ nextAt slot at target = cond slot target (movedBy at 4)
 
 abbrev pub waitingAt : Bool → Cap → Offset → Pending
 waitingAt slot pcc target = cond slot (Pending.Jump (setOffset pcc target)) Pending.Quiet
+
+-- all but CLC, CSC and the capability instructions other than field reads, CSetOffset and CIncOffset
+unfoldable pub lightWord : ℕ → Bool
+lightWord w =
+    cond (eqb (major w) 18) (leb (field25 w) 6 || (leb 14 (field25 w) && leb (field25 w) 15))
+    (not (eqb (major w) 54) && not (eqb (major w) 62))
 
 abbrev pub holding : List ℕ → List Cap → Cap → Pending → ℕ → Machine
 holding g caps pcc pending cause = record { general = g; caps = caps; pcc = pcc; pending = pending; cause = cause }

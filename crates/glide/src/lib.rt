@@ -10,7 +10,7 @@ ghost use mathlib.Core.Path.{_≡_};
 ghost use mathlib.Core.List.{List};
 ghost use Prim.Native.Nat.{ℕ, _≤_};
 ghost use Rattle.cap.specs.Narrow.{setOffset};
-ghost use Rattle.glide.specs.Glide.{nextAt, waitingAt, Glides};
+ghost use Rattle.glide.specs.Glide.{nextAt, waitingAt, lightWord, Glides};
 
 // So many steps on: the capability registers, PCC and the pending jump then.
 pub struct Glided {
@@ -174,4 +174,16 @@ pub fn glide(
             pending,
         },
     }
+}
+
+// Whether the shorter way may make a word's step. Nothing hangs on it but time: a step is the same by either way.
+pub fn is_light(word: u32) -> bool
+    ensures { λ r. ⌜ r ≡ lightWord word ⌝ }
+{
+    let major = word / 0x400_0000;
+    let number = isa::field_25(word);
+    if major == 18 {
+        return checks::either(number <= 6, checks::both(14 <= number, number <= 15));
+    }
+    checks::both(major != 54, major != 62)
 }

@@ -19,17 +19,20 @@ pub fn go(m: Machine, flash: &[u8], ram: &mut [u8], tags: &mut [u8], budget: u32
     let mut pending = m.pending;
     let mut cause = m.cause;
     let mut n: u32 = 0;
+    // The shorter way was not tried at this place.
+    let mut fresh = true;
     while n < budget {
-        let glided = glide::glide(&mut g, cs, pcc, pending, flash, ram, tags, budget - n);
-        n = n + glided.steps;
-        cs = glided.caps;
-        pcc = glided.pcc;
-        pending = glided.pending;
-        if n == budget {
-            return state::finished(n, g, cs, pcc, pending, cause);
-        }
         let fetched = perform::fetch(flash, ram, pcc);
         let w = perform::word_of(fetched);
+        if checks::both(fresh, glide::is_light(w)) {
+            let glided = glide::glide(&mut g, cs, pcc, pending, flash, ram, tags, budget - n);
+            n = n + glided.steps;
+            cs = glided.caps;
+            pcc = glided.pcc;
+            pending = glided.pending;
+            fresh = false;
+            continue;
+        }
         let i25 = isa::field_25(w) as usize;
         let i20 = isa::field_20(w) as usize;
         let i15 = isa::field_15(w) as usize;
@@ -69,6 +72,7 @@ pub fn go(m: Machine, flash: &[u8], ram: &mut [u8], tags: &mut [u8], budget: u32
                 pending = jump;
                 cause = d.cause;
                 n = n + 1;
+                fresh = true;
             }
         }
     }

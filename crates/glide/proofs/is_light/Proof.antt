@@ -1,0 +1,16 @@
+use Rattle.mem.proofs.Calls.{asks}
+use borrow.Author.Tests.{eq-eqb, ne-eqb}
+use Rattle.glide.specs.Glide.{lightWord}
+use Rattle.glide.proofs.is_light.Statement.{statement}
+use Rattle.glide.proofs.is_light.Tie as tie
+
+returns : tie.Need-returns
+unfolding lightWord
+returns c = rw (eq-eqb _ _ (c .before .before .if1 .taken), ← c .before .before .before .field-25 .ensures, ← c .before .both .ensures) (c .either .ensures)
+
+returns-2 : tie.Need-returns-2
+unfolding lightWord
+returns-2 c = rw (ne-eqb _ _ (c .before .if1 .left)) (c .both2 .ensures)
+
+pub is-light-spec : {M : Type 1} → statement M
+is-light-spec = tie.close (tie.spec asks asks asks returns asks returns-2)
