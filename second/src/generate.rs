@@ -15,6 +15,7 @@ mod numbers;
 mod operands;
 mod programs;
 mod refusals;
+mod shelf;
 mod stage;
 mod wanted;
 mod writes;
@@ -82,6 +83,19 @@ pub fn run_cases(seed: u64, count: usize) -> Vec<Case> {
     stream(seed).filter(|case| matches!(case, Case::Run(_))).take(count).collect()
 }
 
+/// `count` books to read or to write, the same for the same seed: first full
+/// memories, then what the decks deal.
+pub fn book_cases(seed: u64, count: usize) -> Vec<Case> {
+    let mut random = Random::new(seed);
+    let mut decks = shelf::Decks::new();
+    let mut cases = shelf::full_cases(&mut random);
+    while cases.len() < count {
+        cases.push(shelf::one_book(&mut random, &mut decks));
+    }
+    cases.truncate(count);
+    cases
+}
+
 fn stream(seed: u64) -> impl Iterator<Item = Case> {
     let mut random = Random::new(seed);
     let mut decks = Decks {
@@ -129,15 +143,26 @@ fn one_case(random: &mut Random, decks: &mut Decks) -> Case {
 
 /// Cases in which something, or everything, is missing.
 fn empty_case(random: &mut Random) -> Case {
-    let lines = random.below(3) as usize;
-    let ram = vec![0; lines * 32];
-    let tags = vec![0; lines];
+    let (ram, tags) = no_bytes(random);
     match random.below(6) {
         0 => Case::Run(RunCase { budget: random.below(3) as u32, ..RunCase::default() }),
         1 => Case::Run(RunCase { ram, tags, budget: 1, ..RunCase::default() }),
-        2 => Case::Read(ReadCase { ram, tags, ..ReadCase::default() }),
-        3 => Case::Read(ReadCase { book: vec![1], ram, tags, ..ReadCase::default() }),
-        4 => Case::Write(WriteCase { ram, tags, ..WriteCase::default() }),
+        which => empty_book(which - 2, ram, tags),
+    }
+}
+
+/// No line, or one or two of zeros, and their tags.
+fn no_bytes(random: &mut Random) -> (Vec<u8>, Vec<u8>) {
+    let lines = random.below(3) as usize;
+    (vec![0; lines * 32], vec![0; lines])
+}
+
+/// No byte to read or no record; no room to write or room for no record.
+fn empty_book(which: u64, ram: Vec<u8>, tags: Vec<u8>) -> Case {
+    match which {
+        0 => Case::Read(ReadCase { ram, tags, ..ReadCase::default() }),
+        1 => Case::Read(ReadCase { book: vec![1], ram, tags, ..ReadCase::default() }),
+        2 => Case::Write(WriteCase { ram, tags, ..WriteCase::default() }),
         _ => Case::Write(WriteCase { ram, tags, out: vec![7; 1], ..WriteCase::default() }),
     }
 }

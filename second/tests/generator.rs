@@ -1,5 +1,7 @@
 //! The random cases: what they cover, and the file that holds them.
 
+#[path = "generator/deserved.rs"]
+mod deserved;
 #[path = "generator/edges.rs"]
 mod edges;
 #[path = "generator/table.rs"]
@@ -10,7 +12,7 @@ use second::generate::{
     answer, answer_line, cases, decode, encode, run_cases, Answer, Case, RunCase,
 };
 use second::random::Random;
-use second::{run, step, Cap, Machine, Outcome, RAM_BASE};
+use second::{run, step, Machine, Outcome, RAM_BASE};
 use std::collections::{BTreeMap, BTreeSet};
 use table::{ACCESS_CAUSES, ROWS};
 
@@ -34,26 +36,8 @@ fn runs(cases: &[Case]) -> impl Iterator<Item = &RunCase> {
     })
 }
 
-/// The refusals that a machine and its memories deserve, found one by one.
-fn deserved(case: &RunCase) -> BTreeSet<u32> {
-    let wrong = |length: usize| length % 32 != 0 || length > 65_536;
-    let mut caps: Vec<Cap> = case.machine.caps.to_vec();
-    caps.push(case.machine.pcc);
-    caps.extend(case.machine.pending);
-    let wide = caps.iter().any(|cap| cap.otype >> 24 != 0 || cap.perms >> 31 != 0);
-    for (line, tag) in case.ram.chunks_exact(32).zip(&case.tags) {
-        let bytes: [u8; 32] = line.try_into().expect("a line has 32 bytes");
-        caps.push(Cap::from_bytes(&bytes, *tag == 1));
-    }
-    let past = |cap: &Cap| cap.tag && u128::from(cap.base) + u128::from(cap.length) > 1 << 64;
-    let found = [
-        (20, wrong(case.flash.len()) || wrong(case.ram.len())),
-        (20, case.tags.len() != case.ram.len() / 32),
-        (21, case.tags.iter().any(|tag| *tag > 1)),
-        (22, caps.iter().any(past)),
-        (24, wide || case.machine.general[0] != 0),
-    ];
-    found.into_iter().filter(|(_, holds)| *holds).map(|(number, _)| number).collect()
+fn refusals(case: &RunCase) -> BTreeSet<u32> {
+    deserved::by_a_start(&case.machine, case.flash.len(), &case.ram, &case.tags)
 }
 
 /// The word a machine would fetch, if nothing stops the fetch.
@@ -106,7 +90,7 @@ fn each_step(case: &RunCase, mut see: impl FnMut(&Step)) {
 }
 
 fn all_steps(cases: &[Case], mut see: impl FnMut(&Step)) {
-    for case in runs(cases).filter(|case| deserved(case).is_empty()) {
+    for case in runs(cases).filter(|case| refusals(case).is_empty()) {
         each_step(case, &mut see);
     }
 }
@@ -243,7 +227,7 @@ fn code_changes_itself() {
 fn refusals_come_singly_and_in_pairs_and_the_least_wins() {
     let mut seen = BTreeSet::new();
     for case in runs(&cases(SEED, COUNT)) {
-        let deserved = deserved(case);
+        let deserved = refusals(case);
         let Some(first) = deserved.first().copied() else { continue };
         let (mut ram, mut tags) = (case.ram.clone(), case.tags.clone());
         let outcome = run(&case.machine, &case.flash, &mut ram, &mut tags, case.budget);

@@ -6,7 +6,8 @@
 //! - read: refusal, or 0, then MACHINE RAM TAGS (a refusal gives the all-zero
 //!   machine and leaves RAM and tags as they were);
 //! - write: refusal, or 0, then the length of the book, or 0, then OUT, which is
-//!   the whole buffer, written or not.
+//!   the whole buffer, written or not; where a book was written, then 0 MACHINE RAM
+//!   TAGS of what was written, which is what reading it must give.
 //!
 //! The words in capitals are checksums. A checksum of bytes starts at 1; each
 //! byte makes it (checksum * 16,777,619 + byte) mod 2^32. RAM, TAGS and OUT are
@@ -73,8 +74,18 @@ pub fn answer_line(case: &Case) -> String {
         Answer::Read { result: Err(refusal), ram, tags } => {
             format!("{refusal} {}", state(&Machine::default(), &ram, &tags))
         }
-        Answer::Write { result: Ok(length), out } => format!("0 {length} {}", checksum(&out)),
+        Answer::Write { result: Ok(length), out } => {
+            format!("0 {length} {}{}", checksum(&out), written(case))
+        }
         Answer::Write { result: Err(refusal), out } => format!("{refusal} 0 {}", checksum(&out)),
+    }
+}
+
+/// What a book must give back that was written of this case.
+fn written(case: &Case) -> String {
+    match case {
+        Case::Write(write) => format!(" 0 {}", state(&write.machine, &write.ram, &write.tags)),
+        _ => String::new(),
     }
 }
 

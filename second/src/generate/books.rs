@@ -1,6 +1,6 @@
 //! Books to read: good ones, and ones with one or two faults in any order.
 
-use super::numbers::{any_cap, edge};
+use super::numbers::{any_cap, edge, open_cap};
 use super::refusals::{past_end_cap, wrong_ram_size};
 use super::ReadCase;
 use crate::random::Random;
@@ -58,27 +58,111 @@ struct Book {
     lost: usize,
 }
 
+impl Book {
+    fn bytes(self) -> Vec<u8> {
+        let mut bytes = self.version;
+        bytes.extend(self.records.concat());
+        bytes.truncate(bytes.len() - self.lost.min(bytes.len()));
+        bytes
+    }
+}
+
 pub fn read_case(random: &mut Random, pair: Pair) -> ReadCase {
-    let ram_length = *random.pick(&[0, 32, 64, 96, 256, 1024, 32_768]);
-    let mut case = ReadCase {
-        book: Vec::new(),
-        flash_length: *random.pick(&[0, 32, 4096, 65_536]),
-        ram: vec![random.next() as u8; ram_length],
-        // What the tags were before does not count.
-        tags: vec![*random.pick(&[0, 0, 1, 2, 255]); ram_length / 32],
-    };
-    let mut book = good_book(random, ram_length);
+    let mut case = no_book(random);
+    let mut book = good_book(random, case.ram.len());
     // Half of the time two faults meet in one record.
     let at = random.next() as usize;
     for fault in [pair.0, pair.1].into_iter().flatten() {
         let at = if random.chance(2) { at } else { random.next() as usize };
         apply(random, &mut case, &mut book, fault, at);
     }
-    let mut bytes = book.version;
-    bytes.extend(book.records.concat());
-    bytes.truncate(bytes.len() - book.lost.min(bytes.len()));
-    case.book = bytes;
+    case.book = book.bytes();
     case
+}
+
+/// Each fault of a record before each other of a later one.
+pub fn turns() -> Vec<(BookFault, BookFault)> {
+    use BookFault::*;
+    let mut all = vec![BodyEmpty, WrongLength, UnknownKind, PastEnd, Order];
+    all.extend((0..FIELD_WAYS).map(FieldRange));
+    let mut turns = Vec::new();
+    for first in &all {
+        turns.extend(all.iter().map(|second| (*first, *second)));
+        // What is cut off ends the book.
+        turns.extend([(*first, HeaderCut), (*first, BodyCut)]);
+    }
+    turns
+}
+
+/// A book with one fault in its earlier part and one in its later part.
+pub fn faults_in_turn(random: &mut Random, turn: (BookFault, BookFault)) -> ReadCase {
+    let mut case = no_book(random);
+    let mut earlier = good_book(random, case.ram.len());
+    let parted = random.below(earlier.records.len() as u64 + 1) as usize;
+    let records = earlier.records.split_off(parted);
+    let mut later = Book { version: Vec::new(), records, lost: 0 };
+    for (part, fault) in [(&mut earlier, turn.0), (&mut later, turn.1)] {
+        let at = random.next() as usize;
+        apply(random, &mut case, part, fault, at);
+    }
+    earlier.records.append(&mut later.records);
+    earlier.lost = later.lost;
+    case.book = earlier.bytes();
+    case
+}
+
+/// The ways of `FieldRange` that leave a capability tagged.
+pub fn tagged_ways() -> Vec<usize> {
+    vec![0, 2, 3, 7, 8, 9, 10]
+}
+
+/// A book whose last record reaches past 2^64 and has a field out of its range; a
+/// capability register there is behind too.
+pub fn faults_in_one(random: &mut Random, way: usize) -> ReadCase {
+    let mut case = no_book(random);
+    let mut book = good_book(random, case.ram.len());
+    let kind = if way < 4 { 1 } else { 3 };
+    book.records.retain(|record| record[2] != kind);
+    let mut record = last_record(random, kind);
+    past_end(random, &mut record);
+    book.records.push(record);
+    field_range(random, &mut book.records, case.ram.len(), way, 0);
+    case.book = book.bytes();
+    case
+}
+
+/// The longest book: every register and every line of the longest RAM, each tagged.
+pub fn longest_book(random: &mut Random, fault: Option<BookFault>) -> ReadCase {
+    let mut book = Book { version: vec![1], records: Vec::new(), lost: 0 };
+    for number in 0..33 {
+        book.records.push(capability_record(number, &open_cap(random)));
+    }
+    for number in 1..32 {
+        book.records.push(general_record(number, edge(random)));
+    }
+    for line in 0..2048 {
+        book.records.push(line_record(RAM_BASE + 32 * line, &open_cap(random)));
+    }
+    let (ram, tags) = (vec![random.next() as u8; 65_536], vec![0; 2048]);
+    let mut case = ReadCase { book: Vec::new(), flash_length: 65_536, ram, tags };
+    if let Some(fault) = fault {
+        let last = book.records.len() - 1;
+        apply(random, &mut case, &mut book, fault, last);
+    }
+    case.book = book.bytes();
+    case
+}
+
+/// Memories as they were before, and no book yet.
+fn no_book(random: &mut Random) -> ReadCase {
+    let ram_length = *random.pick(&[0, 32, 64, 96, 256, 1024, 32_768]);
+    ReadCase {
+        book: Vec::new(),
+        flash_length: *random.pick(&[0, 32, 4096, 65_536]),
+        ram: vec![random.next() as u8; ram_length],
+        // What the tags were before does not count.
+        tags: vec![*random.pick(&[0, 0, 1, 2, 255]); ram_length / 32],
+    }
 }
 
 fn good_book(random: &mut Random, ram_length: usize) -> Book {
@@ -178,11 +262,15 @@ fn wrong_sizes(random: &mut Random, case: &mut ReadCase) {
 /// The header tells the true length of a body of the wrong length.
 fn wrong_length(random: &mut Random, record: &mut Vec<u8>) {
     let mut body = record.split_off(record.len().min(2));
+    let right = body.len();
     match random.below(5) {
         0 => body.push(0),
         1 => body.truncate(1),
         2 => body.resize(*random.pick(&[10, 36, 42, 300]), 0),
         _ => body.truncate(body.len().saturating_sub(1)),
+    }
+    if body.len() == right {
+        body.push(0);
     }
     *record = with_header(body);
 }

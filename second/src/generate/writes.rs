@@ -1,6 +1,6 @@
 //! Machines to write books of: good ones, and ones with one or two faults.
 
-use super::numbers::{any_cap, edge};
+use super::numbers::{any_cap, edge, open_cap};
 use super::refusals::{past_end_cap, past_width, wrong_ram_size, wrong_tag_byte};
 use super::stage::{put_line, untag_illegal_lines};
 use super::{RunCase, WriteCase};
@@ -60,6 +60,24 @@ pub fn write_case(random: &mut Random, pair: Pair) -> WriteCase {
         exact + *random.pick(&[0, 0, 1, 40, 1000])
     };
     let out = vec![random.next() as u8; length];
+    WriteCase { machine: run.machine, ram: run.ram, tags: run.tags, out }
+}
+
+/// The longest book to write, every line tagged: of capabilities, or of zeros alone.
+pub fn longest_write(random: &mut Random, zeros: bool, short_by: usize) -> WriteCase {
+    let (ram, tags) = (vec![0; 65_536], vec![1; 2048]);
+    let mut run = RunCase { ram, tags, ..RunCase::default() };
+    for number in 0..32 {
+        run.machine.caps[number] = open_cap(random);
+        run.machine.general[number] = if number == 0 { 0 } else { edge(random).max(1) };
+    }
+    run.machine.pcc = open_cap(random);
+    if !zeros {
+        for line in 0..2048 {
+            put_line(&mut run, line, &open_cap(random));
+        }
+    }
+    let out = vec![random.next() as u8; book_length(&run) - short_by];
     WriteCase { machine: run.machine, ram: run.ram, tags: run.tags, out }
 }
 
