@@ -7,7 +7,8 @@ use Rattle.cases.proofs.run_cases.Statement.{statement}
 use Rattle.cases.proofs.run_cases.Tie as tie
 
 abbrev Inv-loop : tie.InvT-loop
-Inv-loop space₀ flash₀ ram₀ tags₀ counter₀ space flash ram tags counter = (length space ≡ length space₀) × (length flash ≡ length flash₀) × (length ram ≡ length ram₀) × (length tags ≡ length tags₀)
+Inv-loop space₀ flash₀ ram₀ tags₀ counter₀ space flash ram tags counter =
+    (length space ≡ length space₀) × (length flash ≡ length flash₀) × (length ram ≡ length ram₀) × (length tags ≡ length tags₀)
 
 abbrev μ-loop : tie.MeasureT-loop
 μ-loop space₀ flash₀ ram₀ tags₀ counter₀ space flash ram tags counter = 1000000 - counter
@@ -25,6 +26,9 @@ run-cases-spec =
     (λ c. search needs)
     (λ c. search needs)
     (λ c. search needs)
+    (λ c. search needs)
+    (λ c. search needs)
+    (λ c κs. search needs)
     (λ c. search needs)
     (λ c. search needs)
     (λ c. search needs)

@@ -1,14 +1,14 @@
--- `cases::general_in` is safe and ends. Assumes nothing.
+-- `tables::general_in` is safe and ends. Assumes nothing.
 use Prim.Native.Nat.{_-_}
 use borrow.Author.Needs.{needs}
-use Rattle.cases.proofs.general_in.Statement.{statement}
-use Rattle.cases.proofs.general_in.Tie as tie
+use Rattle.tables.proofs.general_in.Statement.{statement}
+use Rattle.tables.proofs.general_in.Tie as tie
 
 abbrev Inv-loop : tie.InvT-loop
-Inv-loop body general₀ at₀ counter₀ end general at counter = Unit {0}
+Inv-loop body start general₀ count at₀ counter₀ end general at counter = Unit {0}
 
 abbrev μ-loop : tie.MeasureT-loop
-μ-loop body general₀ at₀ counter₀ end general at counter = end - counter
+μ-loop body start general₀ count at₀ counter₀ end general at counter = end - counter
 
 pub general-in-spec : {M : Type 1} → statement M
 general-in-spec =
@@ -16,7 +16,8 @@ general-in-spec =
     (tie.spec
     Inv-loop
     μ-loop
-    (λ c. search needs)
+    (λ c κs. search needs)
+    (λ c κs. search needs)
     (λ c κs. search needs)
     (λ c. search needs)
     (λ c κs. search needs)

@@ -1,10 +1,10 @@
--- `cases::put_memory` is safe and ends. Assumes nothing.
+-- `tables::put_memory` is safe and ends. Assumes nothing.
 use Prim.Native.Nat.{_-_}
 use mathlib.Core.Path.{_≡_}
 use lib.ListN.{length}
 use borrow.Author.Needs.{needs}
-use Rattle.cases.proofs.put_memory.Statement.{statement}
-use Rattle.cases.proofs.put_memory.Tie as tie
+use Rattle.tables.proofs.put_memory.Statement.{statement}
+use Rattle.tables.proofs.put_memory.Tie as tie
 
 abbrev Inv-loop : tie.InvT-loop
 Inv-loop memory₀ body start at₀ counter₀ end memory at counter = length memory ≡ length memory₀

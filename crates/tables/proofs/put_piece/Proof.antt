@@ -1,10 +1,10 @@
--- `cases::put_piece` is safe and ends. Assumes nothing.
+-- `tables::put_piece` is safe and ends. Assumes nothing.
 use Prim.Native.Nat.{_-_}
 use mathlib.Core.Path.{_≡_}
 use lib.ListN.{length}
 use borrow.Author.Needs.{needs}
-use Rattle.cases.proofs.put_piece.Statement.{statement}
-use Rattle.cases.proofs.put_piece.Tie as tie
+use Rattle.tables.proofs.put_piece.Statement.{statement}
+use Rattle.tables.proofs.put_piece.Tie as tie
 
 abbrev Inv-loop : tie.InvT-loop
 Inv-loop memory₀ body at place size from i₀ memory i = length memory ≡ length memory₀

@@ -1,8 +1,8 @@
--- `cases::sum_bytes` is safe and ends. Assumes nothing.
+-- `tables::sum_bytes` is safe and ends. Assumes nothing.
 use Prim.Native.Nat.{_-_}
 use borrow.Author.Needs.{needs}
-use Rattle.cases.proofs.sum_bytes.Statement.{statement}
-use Rattle.cases.proofs.sum_bytes.Tie as tie
+use Rattle.tables.proofs.sum_bytes.Statement.{statement}
+use Rattle.tables.proofs.sum_bytes.Tie as tie
 
 abbrev Inv-loop : tie.InvT-loop
 Inv-loop bytes sum₀ i₀ i-end sum i = Unit {0}

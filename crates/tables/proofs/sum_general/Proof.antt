@@ -1,8 +1,8 @@
--- `cases::sum_general` is safe and ends. Assumes nothing.
+-- `tables::sum_general` is safe and ends. Assumes nothing.
 use Prim.Native.Nat.{_-_}
 use borrow.Author.Needs.{needs}
-use Rattle.cases.proofs.sum_general.Statement.{statement}
-use Rattle.cases.proofs.sum_general.Tie as tie
+use Rattle.tables.proofs.sum_general.Statement.{statement}
+use Rattle.tables.proofs.sum_general.Tie as tie
 
 abbrev Inv-loop : tie.InvT-loop
 Inv-loop start general sum₀ i₀ sum i = Unit {0}
