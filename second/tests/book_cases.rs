@@ -3,7 +3,9 @@
 #[path = "generator/deserved.rs"]
 mod deserved;
 
-use second::generate::{answer, book_cases, decode, encode, Answer, Case, ReadCase, WriteCase};
+use second::generate::{
+    answer, answer_line, book_cases, decode, encode, Answer, Case, ReadCase, WriteCase,
+};
 use second::{read_book, Cap, Machine, RAM_BASE};
 use std::collections::{BTreeMap, BTreeSet};
 
@@ -239,6 +241,18 @@ fn what_is_written_reads_back() {
             assert!(ram == case.ram && tags == case.tags);
         }
     }
+}
+
+#[test]
+fn the_crate_has_these_files() {
+    let cases = book_cases(SEED, COUNT);
+    let crate_file = |name: &str| {
+        let path = format!("{}/../crates/books/{name}", env!("CARGO_MANIFEST_DIR"));
+        std::fs::read(&path).expect("the crate stands beside this program")
+    };
+    let lines: String = cases.iter().map(|case| answer_line(case) + "\n").collect();
+    assert!(crate_file("stdin") == encode(&cases));
+    assert!(crate_file("stdout") == lines.as_bytes());
 }
 
 #[test]
