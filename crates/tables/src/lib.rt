@@ -10,27 +10,34 @@ use state::Machine;
 ghost use mathlib.Core.Path.{_≡_};
 ghost use Prim.Native.Nat.{_≤_};
 ghost use Rattle.io.specs.Counts.{Counts};
+ghost use Rattle.tables.specs.Tables.{byteAt, placeAfter, numberAt, number4, generalCount, capCount, machineEnd};
 
 const PCC: usize = 32;
 
 const PENDING: usize = 33;
 
 // What is read past the end is 0.
-pub fn byte(s: &[u8], at: usize) -> u8 {
+pub fn byte(s: &[u8], at: usize) -> u8
+    ensures { λ r. ⌜ r ≡ byteAt (now (s .entry)) at ⌝ }
+{
     if at < s.len() { s[at] } else { 0 }
 }
 
 fn wide(b: u8) -> usize
-    ensures { λ r. ⌜ r ≤ 255 ⌝ }
+    ensures { λ r. ⌜ (r ≡ b) × (r ≤ 255) ⌝ }
 {
     b as usize
 }
 
-pub fn after(at: usize, bytes: usize) -> usize {
+pub fn after(at: usize, bytes: usize) -> usize
+    ensures { λ r. ⌜ r ≡ placeAfter at bytes ⌝ }
+{
     std::num::wrapping_add_usize(at, bytes)
 }
 
-fn number(s: &[u8], at: usize, size: usize) -> u64 {
+fn number(s: &[u8], at: usize, size: usize) -> u64
+    ensures { λ r. ⌜ r ≡ numberAt (now (s .entry)) at size ⌝ }
+{
     if at < s.len() {
         if size <= s.len() - at {
             return mem::load_be(&s[at..at + size]);
@@ -39,7 +46,9 @@ fn number(s: &[u8], at: usize, size: usize) -> u64 {
     0
 }
 
-pub fn number_4(s: &[u8], at: usize) -> u32 {
+pub fn number_4(s: &[u8], at: usize) -> u32
+    ensures { λ r. ⌜ r ≡ number4 (now (s .entry)) at ⌝ }
+{
     (number(s, at, 4) % 0x1_0000_0000) as u32
 }
 
@@ -47,7 +56,9 @@ fn number_2(s: &[u8], at: usize) -> u16 {
     (number(s, at, 2) % 0x1_0000) as u16
 }
 
-pub fn size_4(s: &[u8], at: usize) -> usize {
+pub fn size_4(s: &[u8], at: usize) -> usize
+    ensures { λ r. ⌜ r ≡ number4 (now (s .entry)) at ⌝ }
+{
     number_4(s, at) as usize
 }
 
@@ -56,11 +67,15 @@ fn size_2(s: &[u8], at: usize) -> usize {
 }
 
 // Where the count of general registers stands, of the machine at `start`; below, where that of capabilities does.
-fn general_count(start: usize) -> usize {
+fn general_count(start: usize) -> usize
+    ensures { λ r. ⌜ r ≡ generalCount start ⌝ }
+{
     after(start, 2)
 }
 
-fn cap_count(body: &[u8], start: usize) -> usize {
+fn cap_count(body: &[u8], start: usize) -> usize
+    ensures { λ r. ⌜ r ≡ capCount (now (body .entry)) start ⌝ }
+{
     let count = general_count(start);
     after(after(count, 1), 9 * wide(byte(body, count)))
 }
@@ -139,7 +154,9 @@ pub fn machine_in(body: &[u8], start: usize) -> Machine {
 }
 
 // Where the machine that stands at `start` ends.
-pub fn machine_end(body: &[u8], start: usize) -> usize {
+pub fn machine_end(body: &[u8], start: usize) -> usize
+    ensures { λ r. ⌜ r ≡ machineEnd (now (body .entry)) start ⌝ }
+{
     let at = cap_count(body, start);
     after(after(at, 1), 36 * wide(byte(body, at)))
 }
