@@ -107,16 +107,16 @@ word-back v h = rw (be-toBe 8 v, mod-eq-of-lt h, mod-eq-of-lt h)
 
 -- the quarters of four lists of eight
 module _ (a b d n : List ℕ) (ha : length a ≡ 8) (hb : length b ≡ 8) (hd : length d ≡ 8) (hn : length n ≡ 8) where
-  quarter0 : take 8 (a ++ (b ++ (d ++ n))) ≡ a
+  pub quarter0 : take 8 (a ++ (b ++ (d ++ n))) ≡ a
   quarter0 = take-at a (b ++ (d ++ n)) 8 ha
 
   quarter1 : take 8 (drop 8 (a ++ (b ++ (d ++ n)))) ≡ b
   quarter1 = part-at a b (d ++ n) 8 ha hb
 
-  quarter2 : take 8 (drop 16 (a ++ (b ++ (d ++ n)))) ≡ d
+  pub quarter2 : take 8 (drop 16 (a ++ (b ++ (d ++ n)))) ≡ d
   quarter2 = rw (← append-assoc a b (d ++ n)) (part-at (a ++ b) d n 16 (rw (length-append, ha, hb)) hd)
 
-  quarter3 : take 8 (drop 24 (a ++ (b ++ (d ++ n)))) ≡ n
+  pub quarter3 : take 8 (drop 24 (a ++ (b ++ (d ++ n)))) ≡ n
   quarter3 =
       rw (← append-assoc b d n, ← append-assoc a (b ++ d) n, drop-at (a ++ (b ++ d)) n 24 (rw (length-append, length-append, ha, hb, hd)))
       (take-all 8 n (omega arith))

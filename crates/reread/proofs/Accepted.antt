@@ -1,96 +1,14 @@
--- What an accepted start says of each register and line. Assumes nothing.
-use Prim.Native.Nat.{ℕ, zero, suc, _+_, _-_, _*_, _/_, _%_, _^_, _≤_, _<_}
-use mathlib.Core.Path.{_≡_, refl, sym, _∙_, ap, subst}
-use mathlib.Core.Bool.{Bool, true, false, cond, not, _&&_}
-use mathlib.Core.List.{List, [], _∷_, _++_}
-use native.Mathlib.Omega.{arith}
-use lib.Dec.{eqb, leb, ltb}
-use lib.ListN.{length, getD, take, drop, length-drop}
-use lib.Seq.{length-take-le}
-use borrow.Author.Tests.{le-leb, lt-leb, le-ltb, ltb-true, ltb-false, not-true, eqb-true, eqb-false}
-use Rattle.mem.specs.Place.{RAM-BASE, memoryFits, tagsFit, placeOf, bytesOf}
-use Rattle.mem.specs.Store.{tagOf, tagAt}
-use Rattle.mem.specs.declared.Place.{Place}
+-- What an accepted start says of the widths of a capability. Assumes nothing.
+use Prim.Native.Nat.{_^_}
+use mathlib.Core.Path.{_≡_}
+use mathlib.Core.Bool.{true}
+use lib.Dec.{ltb}
+use borrow.Author.Tests.{ltb-true}
 use Rattle.cap.specs.declared.Cap.{Cap}
 use Rattle.cap.specs.Cap.{Within}
-use Rattle.cap.specs.Narrow.{null}
-use Rattle.line.specs.Line.{fromWords, decode, capIn, loadCap}
-use Rattle.perform.specs.declared.Pending.{Pending}
-use Rattle.accept.specs.declared.Refusal.{Refusal}
-use Rattle.accept.specs.declared.Verdict.{Verdict}
-use Rattle.accept.specs.Accept.{every, sizesFit, tagBytesFit, topFits, capsFit, jumpFits, loadedFits, lineAt, lineFits, linesFit, widthFits, widthsFit, jumpWidth, verdictOf}
-use Rattle.write.specs.Write.{lineBytes}
+use Rattle.accept.specs.Accept.{widthFits}
+use Rattle.accept.proofs.Accepted.{both-true}
 use Rattle.reread.specs.Claims.{Sized}
-
--- a scan that passed, passed everywhere
-cond-true : (t r : Bool) → cond t r false ≡ true → (t ≡ true) × (r ≡ true)
-cond-true true r e = (refl, e)
-cond-true false r e = let z : _≡_ {A = ℕ} 0 1 = cc in absurd (omega arith)
-
-pub each : (n i : ℕ) (p : ℕ → Bool) → every n i p ≡ true → (j : ℕ) → i ≤ j → j < i + n → p j ≡ true
-unfolding every
-each zero i p e j h k = absurd (omega arith)
-each (suc n) i p e j h k = go (eqb i j) refl (λ l. each n (suc i) p (cond-true (p i) (every n (suc i) p) e .1) j l (omega arith))
-  where
-    go : (b : Bool) → eqb i j ≡ b → (suc i ≤ j → p j ≡ true) → p j ≡ true
-    go true z later = subst (λ (x : ℕ). p x ≡ true) (eqb-true i j z) (cond-true (p i) (every n (suc i) p) e .0)
-    go false z later = later (omega (arith, eqb-false i j z))
-
-pub both-true : (a b : Bool) → (a && b) ≡ true → (a ≡ true) × (b ≡ true)
-both-true true b e = (refl, e)
-both-true false b e = let z : _≡_ {A = ℕ} 0 1 = cc in absurd (omega arith)
-
--- an accepted start passed every test
-tests : (a b d e : Bool) → Verdict.Accepted ≡ cond a (cond b (cond d (cond e Verdict.Accepted (Verdict.Refused Refusal.Width)) (Verdict.Refused Refusal.Top)) (Verdict.Refused Refusal.TagByte)) (Verdict.Refused Refusal.Sizes)
-    → (a ≡ true) × (b ≡ true) × (d ≡ true) × (e ≡ true)
-tests true true true true q = (refl, refl, refl, refl)
-tests true true true false q = let z : _≡_ {A = ℕ} 0 1 = cc in absurd (omega arith)
-tests true true false e q = let z : _≡_ {A = ℕ} 0 1 = cc in absurd (omega arith)
-tests true false d e q = let z : _≡_ {A = ℕ} 0 1 = cc in absurd (omega arith)
-tests false b d e q = let z : _≡_ {A = ℕ} 0 1 = cc in absurd (omega arith)
-
-module _ (caps : List Cap) (pcc : Cap) (pending : Pending) (first : ℕ) (ram tags : List ℕ) (v : Verdict.Accepted ≡ verdictOf caps pcc pending first 0 ram tags) where
-  passed : (sizesFit 0 (length ram) (length tags) ≡ true) × (tagBytesFit tags ≡ true) × (((capsFit caps && (topFits pcc && jumpFits pending)) && linesFit ram tags) ≡ true) × (((widthsFit caps && (widthFits pcc && jumpWidth pending)) && eqb first 0) ≡ true)
-  unfolding verdictOf
-  passed =
-      tests (sizesFit 0 (length ram) (length tags)) (tagBytesFit tags) ((capsFit caps && (topFits pcc && jumpFits pending)) && linesFit ram tags)
-      ((widthsFit caps && (widthFits pcc && jumpWidth pending)) && eqb first 0) v
-
-  pub tag-low : (i : ℕ) → i < length tags → getD tags i 0 ≤ 1
-  tag-low i h = ltb-false 1 (getD tags i 0) (not-true (ltb 1 (getD tags i 0)) (each (length tags) 0 (λ j. not (ltb 1 (getD tags j 0))) (passed .1) i (omega arith) (omega arith)))
-
-  pub sizes-fit : sizesFit 0 (length ram) (length tags) ≡ true
-  sizes-fit = passed .0
-
-  pub whole-lines : length ram ≡ length tags * 32
-  whole-lines =
-      let a = both-true (memoryFits 0 && memoryFits (length ram)) (tagsFit (length ram) (length tags)) (passed .0) in
-      let b = both-true (eqb (length ram % 32) 0) (leb (length ram) 65536) (both-true (memoryFits 0) (memoryFits (length ram)) (a .0) .1) in
-      omega (arith, eqb-true (length tags) (length ram / 32) (a .1), eqb-true (length ram % 32) 0 (b .0))
-
-  pub first-zero : first ≡ 0
-  first-zero = eqb-true first 0 (both-true (widthsFit caps && (widthFits pcc && jumpWidth pending)) (eqb first 0) (passed .3) .1)
-
-  tops : ((capsFit caps && (topFits pcc && jumpFits pending)) ≡ true) × (linesFit ram tags ≡ true)
-  tops = both-true (capsFit caps && (topFits pcc && jumpFits pending)) (linesFit ram tags) (passed .2)
-
-  widths : (widthsFit caps && (widthFits pcc && jumpWidth pending)) ≡ true
-  widths = both-true (widthsFit caps && (widthFits pcc && jumpWidth pending)) (eqb first 0) (passed .3) .0
-
-  pub cap-top : (i : ℕ) → i < 32 → topFits (getD caps i null) ≡ true
-  cap-top i h = each 32 0 (λ j. topFits (getD caps j null)) (both-true (capsFit caps) (topFits pcc && jumpFits pending) (tops .0) .0) i (omega arith) (omega arith)
-
-  pub pcc-top : topFits pcc ≡ true
-  pcc-top = both-true (topFits pcc) (jumpFits pending) (both-true (capsFit caps) (topFits pcc && jumpFits pending) (tops .0) .1) .0
-
-  pub cap-width : (i : ℕ) → i < 32 → widthFits (getD caps i null) ≡ true
-  cap-width i h = each 32 0 (λ j. widthFits (getD caps j null)) (both-true (widthsFit caps) (widthFits pcc && jumpWidth pending) widths .0) i (omega arith) (omega arith)
-
-  pub pcc-width : widthFits pcc ≡ true
-  pcc-width = both-true (widthFits pcc) (jumpWidth pending) (both-true (widthsFit caps) (widthFits pcc && jumpWidth pending) widths .1) .0
-
-  pub line-top : (i : ℕ) → i < length tags → lineFits ram tags i ≡ true
-  line-top i h = each (length tags) 0 (lineFits ram tags) (tops .1) i (omega arith) (omega arith)
 
 pub within : (c : Cap) → Sized c → widthFits c ≡ true → Within c
 within c s e =
@@ -103,30 +21,3 @@ within c s e =
       length = s .length;
       offset = s .offset;
     }
-
--- the capability that a start's test loads from a line is the one in the line's bytes
-module _ (ram tags : List ℕ) (i : ℕ) (h : i * 32 + 32 ≤ length ram) (k : i < 2048) where
-  place : placeOf 0 (length ram) (lineAt i) 32 ≡ Place.Ram (i * 32)
-  unfolding placeOf
-  place =
-      let a = RAM-BASE + i % 2 ^ 24 * 32 in
-      let z : a - RAM-BASE ≡ i * 32 = omega arith in
-      rw (lt-leb (a + 32) 0 (omega arith), le-ltb a RAM-BASE (omega arith), z, le-leb (i * 32 + 32) (length ram) h)
-
-  load-line : loadCap [] ram tags (lineAt i) ≡ capIn (tagOf tags i) (lineBytes ram i)
-  unfolding loadCap bytesOf
-  load-line = let z : i * 32 / 32 ≡ i = omega arith in rw (place, z)
-
-  pub bytes-32 : length (lineBytes ram i) ≡ 32
-  bytes-32 = length-take-le 32 (drop (i * 32) ram) (rw length-drop (omega arith))
-
-  untagged : loadedFits (capIn false (lineBytes ram i)) ≡ true
-  unfolding capIn decode fromWords
-  untagged = rw bytes-32
-
-  pub loaded-top : lineFits ram tags i ≡ true → loadedFits (capIn (tagOf tags i) (lineBytes ram i)) ≡ true
-  loaded-top e = go (tagOf tags i) refl
-    where
-      go : (t : Bool) → tagOf tags i ≡ t → loadedFits (capIn (tagOf tags i) (lineBytes ram i)) ≡ true
-      go true q = ap loadedFits (sym load-line) ∙ sym (ap (λ (t : Bool). cond t (loadedFits (loadCap [] ram tags (lineAt i))) true) q) ∙ e
-      go false q = rw q untagged

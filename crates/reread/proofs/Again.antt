@@ -28,7 +28,7 @@ use Rattle.write.specs.Write.{lineBytes, bookOf, rests}
 use Rattle.enter.specs.Enter.{Start, entered, machineWith, ramWith, tagsWith, enterAll, enterBook, bare, judged, readBook}
 use Rattle.reread.specs.Claims.{Typed, WrittenAndRead}
 use Rattle.reread.proofs.Walked.{Suffix, Passes}
-use Rattle.reread.proofs.Accepted.{both-true, sizes-fit, tag-low, whole-lines, first-zero, bytes-32}
+use Rattle.accept.proofs.Accepted.{both-true, sizes-fit, tag-low, whole-lines, first-zero, bytes-32}
 use Rattle.reread.proofs.Filled.{filled, filled-set, filled-same, filled-all, filled-put, filled-part, zero-cap, zero-part, line-bytes-at}
 use Rattle.reread.proofs.Written.{there, book-walk, book-accepted, taken}
 
@@ -114,7 +114,7 @@ module _ (m : Machine) (ram tags : List ℕ) (ty : Typed m) (lc : length (m .cap
       }
 
   first-same : zg ≡ filled (m .general) zg 1
-  first-same = filled-same (m .general) zg lg′ 0 0 (omega (arith, lg)) (sym (first-zero (m .caps) (m .pcc) (m .pending) (getD (m .general) 0 0) ram tags v))
+  first-same = filled-same (m .general) zg lg′ 0 0 (omega (arith, lg)) (sym (first-zero (m .caps) (m .pcc) (m .pending) (getD (m .general) 0 0) 0 ram tags v))
 
   pcc-passes : Passes book (length ram) (zeroCap (m .pcc)) (capBody 32 (m .pcc)) (Entry.Capability 32 (m .pcc)) (Caps 32) (Generals 1)
   unfolding machineWith ramWith tagsWith
@@ -146,7 +146,7 @@ module _ (m : Machine) (ram tags : List ℕ) (ty : Typed m) (lc : length (m .cap
   line-passes i h =
       let t = tagOf tags i in
       let a = RAM-BASE + i * 32 in
-      let low = tag-low (m .caps) (m .pcc) (m .pending) (getD (m .general) 0 0) ram tags v i h in
+      let low = tag-low (m .caps) (m .pcc) (m .pending) (getD (m .general) 0 0) 0 ram tags v i h in
       let w = there m ram tags ty v in
       let r : i * 32 + 32 ≤ length ram = omega (arith, w .0, h) in
       let k : i < 2048 = omega (arith, w .1, h) in
@@ -184,7 +184,7 @@ module _ (m : Machine) (ram tags : List ℕ) (ty : Typed m) (lc : length (m .cap
   ended at kind key h n k =
       let er : length zr ≡ length ram = length-replicate {A = ℕ} (length ram) 0 in
       let et : length zt ≡ length tags = length-replicate {A = ℕ} (length tags) 0 in
-      let w = whole-lines (m .caps) (m .pcc) (m .pending) (getD (m .general) 0 0) ram tags v in
+      let w = whole-lines (m .caps) (m .pcc) (m .pending) (getD (m .general) 0 0) 0 ram tags v in
       ap (λ (s : Step). enterAll n book (length ram) s (with (m .caps) (m .pcc) (m .general) (filled ram zr (length tags * 32)) (filled tags zt (length tags)))) (at-end book (length ram) at kind key h)
       ∙ done n book (length ram) (with (m .caps) (m .pcc) (m .general) (filled ram zr (length tags * 32)) (filled tags zt (length tags)))
       ∙ rw (filled-all ram zr er 0 (length tags * 32) (omega (arith, w)), filled-all tags zt et 0 (length tags) (omega arith))
@@ -223,7 +223,7 @@ unfolding judged
 written-and-read m ram tags out n flash ram′ tags′ ty lc lg e ff er et =
     let f = taken m ram tags out n e in
     let book = bookOf m ram tags in
-    let fits = sizes (memoryFits 0) (memoryFits (length ram)) (tagsFit (length ram) (length tags)) (sizes-fit (m .caps) (m .pcc) (m .pending) (getD (m .general) 0 0) ram tags (f .0)) (memoryFits flash) ff in
+    let fits = sizes (memoryFits 0) (memoryFits (length ram)) (tagsFit (length ram) (length tags)) (sizes-fit (m .caps) (m .pcc) (m .pending) (getD (m .general) 0 0) 0 ram tags (f .0)) (memoryFits flash) ff in
     let accepted : judged book flash (length ram′) (length tags′) ≡ Verdict.Accepted = rw (er, et, fits) (book-accepted m ram tags ty (f .0)) in
     let read : readBook book flash ram′ tags′ ≡ record { machine = m; ram = ram; tags = tags } =
     read-accepted book flash ram′ tags′ accepted ∙ rw (er, et) (book-entered m ram tags ty lc lg (f .0) (length book) (omega arith) ∙ resting m ram tags (f .1)) in

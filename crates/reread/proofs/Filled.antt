@@ -16,7 +16,7 @@ use Rattle.cap.specs.declared.Cap.{Cap}
 use Rattle.cap.specs.Narrow.{null}
 use Rattle.compose.specs.Compose.{fields, recordOf, lineBody, zeroCap, zeroBytes}
 use Rattle.compose.proofs.Fields.{length-fields}
-use Rattle.reread.proofs.Accepted.{each, both-true}
+use Rattle.accept.proofs.Accepted.{each, both-true}
 use Rattle.reread.proofs.Walked.{Suffix}
 
 -- the first i elements of xs over those of zs

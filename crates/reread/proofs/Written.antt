@@ -28,7 +28,8 @@ use Rattle.write.proofs.Books.{lines-there}
 use Rattle.reread.specs.Claims.{Typed, WrittenIsAccepted}
 use Rattle.reread.proofs.Entries.{cap-is-read, general-is-read, line-is-read}
 use Rattle.reread.proofs.Walked.{Suffix, further, Goes, goes-end, Upto, upto-next, Passes, accepts, piece-goes, pieces-go}
-use Rattle.reread.proofs.Accepted.{cap-top, pcc-top, cap-width, pcc-width, line-top, within, bytes-32, loaded-top}
+use Rattle.accept.proofs.Accepted.{cap-top, pcc-top, cap-width, pcc-width, line-top, bytes-32, loaded-top}
+use Rattle.reread.proofs.Accepted.{within}
 
 ends : (book : List ℕ) (at : ℕ) → Suffix book at [] → length book ≤ at
 ends book at s = omega (arith, ap length (s .split ∙ append-nil (s .before)), s .place)
@@ -69,8 +70,8 @@ module _ (m : Machine) (ram tags : List ℕ) (ty : Typed m) (v : start.Verdict.A
     unfolding capPiece
     one-cap i g h =
         piece-goes book r (Caps i) (Caps (suc i)) (zeroCap (cap-at i)) (capBody i (cap-at i)) (Entry.Capability i (cap-at i)) 1 i (suc i) refl refl (omega arith)
-        (λ e. cap-is-read i (cap-at i) r (omega arith) (within (cap-at i) (ty .caps i) (cap-width (m .caps) (m .pcc) (m .pending) (general-at 0) ram tags v i h))
-        (cap-top (m .caps) (m .pcc) (m .pending) (general-at 0) ram tags v i h))
+        (λ e. cap-is-read i (cap-at i) r (omega arith) (within (cap-at i) (ty .caps i) (cap-width (m .caps) (m .pcc) (m .pending) (general-at 0) 0 ram tags v i h))
+        (cap-top (m .caps) (m .pcc) (m .pending) (general-at 0) 0 ram tags v i h))
         (caps i h)
 
     the-pcc : (at : ℕ) (rest : List ℕ) → Suffix book at (capPiece 32 (m .pcc) ++ rest)
@@ -78,8 +79,8 @@ module _ (m : Machine) (ram tags : List ℕ) (ty : Typed m) (v : start.Verdict.A
     unfolding capPiece
     the-pcc =
         piece-goes book r (Caps 32) (Generals 1) (zeroCap (m .pcc)) (capBody 32 (m .pcc)) (Entry.Capability 32 (m .pcc)) 1 32 33 refl refl (omega arith)
-        (λ e. cap-is-read 32 (m .pcc) r (omega arith) (within (m .pcc) (ty .pcc) (pcc-width (m .caps) (m .pcc) (m .pending) (general-at 0) ram tags v))
-        (pcc-top (m .caps) (m .pcc) (m .pending) (general-at 0) ram tags v))
+        (λ e. cap-is-read 32 (m .pcc) r (omega arith) (within (m .pcc) (ty .pcc) (pcc-width (m .caps) (m .pcc) (m .pending) (general-at 0) 0 ram tags v))
+        (pcc-top (m .caps) (m .pcc) (m .pending) (general-at 0) 0 ram tags v))
         pcc
 
     one-general : (i : ℕ) → 1 ≤ i → i < 32 → (at : ℕ) (rest : List ℕ) → Suffix book at (generalPiece i (general-at i) ++ rest)
@@ -98,7 +99,7 @@ module _ (m : Machine) (ram tags : List ℕ) (ty : Typed m) (v : start.Verdict.A
         piece-goes book r (Lines i) (Lines (suc i)) (bare i) (line-body i) (Entry.Line (address i) (tagOf tags i)) 3 (address i) (address (suc i)) refl refl (omega arith)
         (λ e. line-is-read (address i) (tagOf tags i) (lineBytes ram i) r
         (sym (line-within (address i) r (omega arith) (omega arith) (omega arith) (omega (arith, q)))) (omega (arith, l))
-        (bytes-32 ram tags i q l) (loaded-top ram tags i q l (line-top (m .caps) (m .pcc) (m .pending) (general-at 0) ram tags v i h)))
+        (bytes-32 ram tags i q l) (loaded-top ram tags i q l (line-top (m .caps) (m .pcc) (m .pending) (general-at 0) 0 ram tags v i h)))
         (lines i h)
 
     -- each kind's records, from the place where they begin

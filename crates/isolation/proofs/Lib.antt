@@ -1,0 +1,9 @@
+pub mod Ranges
+pub mod Lists
+pub mod Plans
+pub mod Stored
+pub mod Keeps
+pub mod Agrees
+pub mod Starts
+pub mod Theorem
+pub mod Worked

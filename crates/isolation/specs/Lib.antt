@@ -1,0 +1,4 @@
+pub mod Reach
+pub mod Agree
+pub mod Claims
+pub mod Worked
