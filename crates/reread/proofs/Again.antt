@@ -212,7 +212,7 @@ sizes : (a b t : Bool) → ((a && b) && t) ≡ true → (flash : Bool) → flash
 sizes a b t e flash f = let p = both-true (a && b) t e in let q = both-true a b (p .0) in rw (f, q .1, p .1)
 
 -- an accepted book is entered over zeros
-read-accepted : (book : List ℕ) (flash : ℕ) (ram tags : List ℕ) → judged book flash (length ram) (length tags) ≡ Verdict.Accepted
+pub read-accepted : (book : List ℕ) (flash : ℕ) (ram tags : List ℕ) → judged book flash (length ram) (length tags) ≡ Verdict.Accepted
     → readBook book flash ram tags ≡ enterAll (length book) book (length ram) (stepAt book (length ram) 1 0 0) (bare (replicate (length ram) 0) (replicate (length tags) 0))
 unfolding readBook enterBook
 read-accepted book flash ram tags e =
