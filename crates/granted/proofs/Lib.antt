@@ -1,0 +1,5 @@
+pub mod Says
+pub mod Sound
+pub mod Accepted
+pub mod Read
+pub mod Nothing
