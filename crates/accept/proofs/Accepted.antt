@@ -110,14 +110,14 @@ module _ (ram tags : List ℕ) (i : ℕ) (h : i * 32 + 32 ≤ length ram) (k : i
       let z : a - RAM-BASE ≡ i * 32 = omega arith in
       rw (lt-leb (a + 32) 0 (omega arith), le-ltb a RAM-BASE (omega arith), z, le-leb (i * 32 + 32) (length ram) h)
 
-  load-line : loadCap [] ram tags (lineAt i) ≡ capIn (tagOf tags i) (take 32 (drop (i * 32) ram))
+  pub load-line : loadCap [] ram tags (lineAt i) ≡ capIn (tagOf tags i) (take 32 (drop (i * 32) ram))
   unfolding loadCap bytesOf
   load-line = let z : i * 32 / 32 ≡ i = omega arith in rw (place, z)
 
   pub bytes-32 : length (take 32 (drop (i * 32) ram)) ≡ 32
   bytes-32 = length-take-le 32 (drop (i * 32) ram) (rw length-drop (omega arith))
 
-  untagged : loadedFits (capIn false (take 32 (drop (i * 32) ram))) ≡ true
+  pub untagged : loadedFits (capIn false (take 32 (drop (i * 32) ram))) ≡ true
   unfolding capIn decode fromWords
   untagged = rw bytes-32
 

@@ -14,7 +14,7 @@ use Rattle.accept.specs.declared.Refusal.{Refusal}
 use Rattle.accept.specs.declared.Verdict.{Verdict}
 use Rattle.accept.specs.Accept.{every, sizesFit, tagBytesFit, topFits, capsFit, jumpFits, lineFits, linesFit, widthFits, widthsFit, jumpWidth, verdictOf}
 use Rattle.enter.specs.Enter.{Start}
-use Rattle.reread.proofs.Accepted.{load-line}
+use Rattle.accept.proofs.Accepted.{load-line}
 use Rattle.granted.proofs.Sound.{Sound}
 
 -- a scan passes where each test does

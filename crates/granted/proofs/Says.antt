@@ -18,7 +18,7 @@ use Rattle.record.specs.Record.{byte, number, generalOf, capOf, capabilityOf, i
 use Rattle.book.specs.declared.Step.{Step}
 use Rattle.book.specs.Book.{stepAt}
 use Rattle.book.proofs.Walks.{more-goes-on, more-fits}
-use Rattle.reread.proofs.Accepted.{both-true}
+use Rattle.accept.proofs.Accepted.{both-true}
 
 -- neither 22 nor 24
 pub record Fit (c : Cap) : Type 0 where
