@@ -1,5 +1,6 @@
 // The bench: a start book and a flash with 32,768 bytes of RAM and a budget of 1,000 (01, "Bench examples").
 use book::Verdict;
+use mem::LINE;
 use record::Refusal;
 use state::Outcome;
 ghost use mathlib.Core.Path.{_≡_};
@@ -7,6 +8,9 @@ ghost use Rattle.bench.specs.Claims.{AcceptedIsRun, BenchTable};
 ghost use Rattle.bench.specs.Bench.{answerOf, refusing, bookRun, benchFits, benchOf};
 
 pub const BENCH_RAM: usize = 32_768;
+
+// One tag for each line of it.
+pub const BENCH_TAGS: usize = BENCH_RAM / LINE;
 
 pub const BUDGET: u32 = 1_000;
 
