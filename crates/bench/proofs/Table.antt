@@ -33,7 +33,7 @@ use Rattle.bench.specs.declared.Answer.{Answer}
 use Rattle.bench.specs.Bench.{BENCH-RAM, BUDGET, FILE-MOST, answerOf, refusing, startedBy, bookRun, benchOf}
 use Rattle.bench.specs.Table.{Row, table}
 use Rattle.bench.specs.Claims.{BenchTable}
-use Rattle.bench.proofs.Legal.{judged-fits, book-accepts}
+use Rattle.granted.proofs.Read.{read-is-accepted}
 
 -- the answer to a verdict on a book, in RAM and tags of these sizes; a run of an accepted book is not judged again
 unfoldable answering : ℕ → ℕ → List ℕ → List ℕ → Verdict → Answer
@@ -51,9 +51,10 @@ module _ (book flash ram tags : List ℕ) where
   -- an accepted book sets all of RAM and all tags, and a run accepts it
   started : (v : Verdict) → judged book (length flash) (length ram) (length tags) ≡ v
       → startedBy v flash (startAs v book ram tags) .answer ≡ answering (length ram) (length tags) book flash v
-  unfolding answering runOf enterBook
+  unfolding answering runOf readBook enterBook
   started Verdict.Accepted e =
-      rw (book-accepts book (length flash) (length ram) (length tags) (judged-fits book (length flash) (length ram) (length tags) e), length-replicate)
+      let h = rw e at (read-is-accepted book flash ram tags e) in
+      rw (h, length-replicate)
   started (Verdict.Refused refusal) e = refl
 
   sized : length ram ≡ BENCH-RAM → benchOf book flash ram tags .answer ≡ answerIn (length ram) (length tags) book flash

@@ -4,7 +4,7 @@ use mem::LINE;
 use record::Refusal;
 use state::Outcome;
 ghost use mathlib.Core.Path.{_≡_};
-ghost use Rattle.bench.specs.Claims.{AcceptedIsRun, BenchTable};
+ghost use Rattle.bench.specs.Claims.{BenchTable};
 ghost use Rattle.bench.specs.Bench.{answerOf, refusing, bookRun, benchFits, benchOf};
 
 pub const BENCH_RAM: usize = 32_768;
@@ -86,8 +86,7 @@ pub fn bench(book: &[u8], flash: &[u8], ram: &mut [u8], tags: &mut [u8]) -> Answ
     refusing(Refusal::Sizes)
 }
 
-// What an accepted book gives, a run accepts; and the examples of 01 that are proved, together.
+// The examples of 01 that are proved, together.
 pub fn claims()
-    ensures accepted_is_run { λ _. ⌜ AcceptedIsRun ⌝ }
     ensures bench_table { λ _. ⌜ BenchTable ⌝ }
 {}
