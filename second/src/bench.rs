@@ -5,7 +5,7 @@ use crate::cause::REFUSE_SIZE;
 use crate::memory::{LINE, MEMORY_MOST};
 use crate::run::run;
 
-const BENCH_RAM: usize = 32_768;
+pub const BENCH_RAM: usize = 32_768;
 const BENCH_BUDGET: u32 = 1_000;
 
 /// Stop or refusal, cause, register, place, steps; zeros where they do not apply.

@@ -1,6 +1,7 @@
 //! Random cases, the file that holds them, and the answers to them.
 //!
-//! A case asks one of three things: run a machine, read a book, write a book.
+//! A case asks one of four things: run a machine, read a book, write a book, or
+//! the bench's line for a book and a flash.
 //! `cases` makes them, the same from the same seed on every machine; `encode`
 //! and `decode` are the case file; `answer` and `answer_line` ask this program.
 
@@ -17,6 +18,7 @@ mod programs;
 mod refusals;
 mod shelf;
 mod stage;
+mod vectors;
 mod wanted;
 mod writes;
 
@@ -26,6 +28,7 @@ pub use format::{decode, encode};
 use crate::asm::encode::Format;
 use crate::random::Random;
 use crate::Machine;
+use stage::Setting;
 use wanted::{Deck, Target};
 
 /// Run a machine with this flash, RAM, tags and budget.
@@ -56,11 +59,19 @@ pub struct WriteCase {
     pub out: Vec<u8>,
 }
 
+/// Read a book and run it as the bench does.
+#[derive(Clone, PartialEq, Eq, Debug, Default)]
+pub struct BenchCase {
+    pub book: Vec<u8>,
+    pub flash: Vec<u8>,
+}
+
 #[derive(Clone, PartialEq, Eq, Debug)]
 pub enum Case {
     Run(RunCase),
     Read(ReadCase),
     Write(WriteCase),
+    Bench(BenchCase),
 }
 
 /// The decks from which wanted outcomes are dealt, so that all of them come up.
@@ -96,6 +107,19 @@ pub fn book_cases(seed: u64, count: usize) -> Vec<Case> {
     cases
 }
 
+/// `count` books and flashes for the bench, the same for the same seed: first the
+/// examples of 01 and the largest files, then what the decks deal.
+pub fn bench_cases(seed: u64, count: usize) -> Vec<Case> {
+    let mut random = Random::new(seed);
+    let mut decks = vectors::Decks::new();
+    let mut cases = vectors::first_cases(&mut random);
+    while cases.len() < count {
+        cases.push(vectors::one_case(&mut random, &mut decks));
+    }
+    cases.truncate(count);
+    cases.into_iter().map(Case::Bench).collect()
+}
+
 fn stream(seed: u64) -> impl Iterator<Item = Case> {
     let mut random = Random::new(seed);
     let mut decks = Decks {
@@ -113,18 +137,19 @@ fn one_case(random: &mut Random, decks: &mut Decks) -> Case {
     match random.below(100) {
         0..=35 => {
             let target = decks.targets.deal(random);
-            Case::Run(focus::focus(random, target, decks.targets.odd_round()))
+            Case::Run(focus::focus(random, target, decks.targets.odd_round(), Setting::Free))
         }
         36..=57 => {
             let target = decks.pairs.deal(random);
-            Case::Run(focus::focus(random, target, decks.pairs.odd_round()))
+            Case::Run(focus::focus(random, target, decks.pairs.odd_round(), Setting::Free))
         }
-        58..=62 => Case::Run(fetch::fetch_fault(random)),
+        58..=62 => Case::Run(fetch::fetch_fault(random, Setting::Free)),
         63..=69 => {
             let format = decks.near_words.deal(random);
-            Case::Run(fetch::reserved_word(random, format, decks.near_words.odd_round()))
+            let near = decks.near_words.odd_round();
+            Case::Run(fetch::reserved_word(random, format, near, Setting::Free))
         }
-        70..=77 => Case::Run(programs::program(random)),
+        70..=77 => Case::Run(programs::program(random, Setting::Free)),
         78..=82 => {
             let pair = decks.refusals.deal(random);
             Case::Run(refusals::refused(random, pair))

@@ -7,7 +7,8 @@
 //!   machine and leaves RAM and tags as they were);
 //! - write: refusal, or 0, then the length of the book, or 0, then OUT, which is
 //!   the whole buffer, written or not; where a book was written, then 0 MACHINE RAM
-//!   TAGS of what was written, which is what reading it must give.
+//!   TAGS of what was written, which is what reading it must give;
+//! - bench: stop or refusal, cause, register, place, steps.
 //!
 //! The words in capitals are checksums. A checksum of bytes starts at 1; each
 //! byte makes it (checksum * 16,777,619 + byte) mod 2^32. RAM, TAGS and OUT are
@@ -27,6 +28,7 @@ pub enum Answer {
     Run { outcome: Outcome, ram: Vec<u8>, tags: Vec<u8> },
     Read { result: Result<Machine, u32>, ram: Vec<u8>, tags: Vec<u8> },
     Write { result: Result<usize, u32>, out: Vec<u8> },
+    Bench([u64; 5]),
 }
 
 /// Asks this program.
@@ -35,6 +37,7 @@ pub fn answer(case: &Case) -> Answer {
         Case::Run(run) => answer_run(run),
         Case::Read(read) => answer_read(read),
         Case::Write(write) => answer_write(write),
+        Case::Bench(bench) => Answer::Bench(crate::bench_line(&bench.book, &bench.flash)),
     }
 }
 
@@ -78,6 +81,7 @@ pub fn answer_line(case: &Case) -> String {
             format!("0 {length} {}{}", checksum(&out), written(case))
         }
         Answer::Write { result: Err(refusal), out } => format!("{refusal} 0 {}", checksum(&out)),
+        Answer::Bench(line) => line.map(|number| number.to_string()).join(" "),
     }
 }
 

@@ -2,10 +2,10 @@
 
 use super::access::outside_address;
 use super::capability::fill_operands;
-use super::focus::pending_cap;
+use super::focus::{pending_cap, ALWAYS};
 use super::numbers::longest;
 use super::operands::Operands;
-use super::stage::{code_address, code_cap, empty_stage, put_words, untag_illegal_lines};
+use super::stage::{code_address, code_cap, empty_stage, put_words, untag_illegal_lines, Setting};
 use super::RunCase;
 use crate::asm::encode::{Format, FORMATS};
 use crate::random::Random;
@@ -54,8 +54,8 @@ const STRANGERS: &[u32] = &[
 ];
 
 /// A PCC with one or two of its own faults, in a slot or not.
-pub fn fetch_fault(random: &mut Random) -> RunCase {
-    let mut run = empty_stage(random);
+pub fn fetch_fault(random: &mut Random, setting: Setting) -> RunCase {
+    let mut run = empty_stage(random, setting);
     let mut address = code_address(random, &run, 2);
     if random.chance(3) {
         address = outside_address(random, &run, 4);
@@ -66,7 +66,7 @@ pub fn fetch_fault(random: &mut Random) -> RunCase {
     }
     put_words(&mut run, address, &[0, 0]);
     untag_illegal_lines(&mut run);
-    if random.chance(2) {
+    if setting == Setting::Free && random.chance(2) {
         run.machine.pending = Some(pending_cap(random, &run));
     }
     // A few steps more, so that good code runs off its end.
@@ -98,8 +98,13 @@ fn spoil_pcc(random: &mut Random, run: &mut RunCase) {
 }
 
 /// A word that is near this instruction, or else a stranger, alone or in a slot.
-pub fn reserved_word(random: &mut Random, format: &'static Format, near: bool) -> RunCase {
-    let mut run = empty_stage(random);
+pub fn reserved_word(
+    random: &mut Random,
+    format: &'static Format,
+    near: bool,
+    setting: Setting,
+) -> RunCase {
+    let mut run = empty_stage(random, setting);
     let operands = Operands::new(random, format, false);
     fill_operands(random, &mut run, &operands);
     let word = match random.below(8) {
@@ -111,11 +116,15 @@ pub fn reserved_word(random: &mut Random, format: &'static Format, near: bool) -
             operands.word() ^ 1 << random.pick(&unused)
         }
     };
-    let address = code_address(random, &run, 2);
-    run.machine.pcc = code_cap(random, address, 2);
-    put_words(&mut run, address, &[word, 0x0D]);
+    let mut words = vec![word, 0x0D];
+    if setting == Setting::Bench && random.chance(2) {
+        words.insert(0, ALWAYS | 1);
+    }
+    let address = code_address(random, &run, words.len());
+    run.machine.pcc = code_cap(random, address, words.len());
+    put_words(&mut run, address, &words);
     untag_illegal_lines(&mut run);
-    if random.chance(2) {
+    if setting == Setting::Free && random.chance(2) {
         run.machine.pending = Some(pending_cap(random, &run));
     }
     run.budget = *random.pick(&[1, 1, 1, 2]);

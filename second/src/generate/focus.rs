@@ -3,7 +3,8 @@
 use super::numbers::{any_cap, edge, longest};
 use super::operands::Operands;
 use super::stage::{
-    code_address, code_cap, empty_stage, put_words, untag_illegal_lines, words_after, ACCESS_BITS,
+    code_address, code_cap, empty_stage, put_words, untag_illegal_lines, words_after, Setting,
+    ACCESS_BITS,
 };
 use super::wanted::{Fault, Target};
 use super::{access, capability, RunCase};
@@ -14,15 +15,15 @@ use crate::{
 };
 
 /// `beq $0, $0`, always taken, without its count.
-const ALWAYS: u32 = 4 << 26;
+pub const ALWAYS: u32 = 4 << 26;
 
 /// A clean run meets its target surely; others are varied further.
-pub fn focus(random: &mut Random, target: Target, clean: bool) -> RunCase {
-    let mut run = empty_stage(random);
+pub fn focus(random: &mut Random, target: Target, clean: bool, setting: Setting) -> RunCase {
+    let mut run = empty_stage(random, setting);
     let may_be_slot = !clean || target.faults[1].is_some();
     let slot = target.slot || (may_be_slot && !turns(target.format.name) && random.chance(5));
     // In a slot, the jump is handed in or made by a branch before it.
-    let branch_before = slot && random.chance(2);
+    let branch_before = slot && (setting == Setting::Bench || random.chance(2));
     let mut words = Vec::new();
     if branch_before {
         words.push(ALWAYS | random.below(8).wrapping_sub(2) as u32 & 0xFFFF);

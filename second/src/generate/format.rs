@@ -7,7 +7,8 @@
 //! - kind 2, read: byte 2, book, length of the flash (4), RAM and tags as they
 //!   were before;
 //! - kind 3, write: byte 3, machine, RAM, tags, the output buffer as it was
-//!   before (its length is the buffer's).
+//!   before (its length is the buffer's);
+//! - kind 4, bench: byte 4, book, flash.
 //!
 //! A machine is
 //!
@@ -28,7 +29,7 @@
 //!
 //! Lengths need not be legal sizes, and a tag byte may be above 1.
 
-use super::{Case, ReadCase, RunCase, WriteCase};
+use super::{BenchCase, Case, ReadCase, RunCase, WriteCase};
 use crate::{Cap, Machine};
 
 const PCC_NUMBER: u8 = 32;
@@ -72,6 +73,11 @@ fn encode_case(case: &Case) -> Vec<u8> {
             put_memory(&mut body, &write.ram);
             put_memory(&mut body, &write.tags);
             put_memory(&mut body, &write.out);
+        }
+        Case::Bench(bench) => {
+            body.push(4);
+            put_memory(&mut body, &bench.book);
+            put_memory(&mut body, &bench.flash);
         }
     }
     body
@@ -171,6 +177,10 @@ fn decode_case(body: &[u8]) -> Result<Case, String> {
             let machine = reader.machine()?;
             let (ram, tags, out) = (reader.memory()?, reader.memory()?, reader.memory()?);
             Case::Write(WriteCase { machine, ram, tags, out })
+        }
+        4 => {
+            let (book, flash) = (reader.memory()?, reader.memory()?);
+            Case::Bench(BenchCase { book, flash })
         }
         kind => return Err(format!("unknown kind {kind}")),
     };

@@ -2,7 +2,7 @@
 
 use super::numbers::{any_cap, edge, memory_cap};
 use super::operands::Operands;
-use super::stage::{code_address, code_cap, empty_stage, put_words, untag_illegal_lines};
+use super::stage::{code_address, code_cap, empty_stage, put_words, untag_illegal_lines, Setting};
 use super::RunCase;
 use crate::asm::encode::{word, Kind, FORMATS};
 use crate::random::Random;
@@ -15,8 +15,8 @@ const OFTEN_LAST: &[&str] =
     &["break", "ccall", "creturn", "cjr", "cjalr", "ccheckperm", "cchecktype"];
 
 /// A program with registers that are useful to it.
-pub fn program(random: &mut Random) -> RunCase {
-    let mut run = empty_stage(random);
+pub fn program(random: &mut Random, setting: Setting) -> RunCase {
+    let mut run = empty_stage(random, setting);
     useful_registers(random, &mut run);
     if random.chance(3) {
         self_changing(random, &mut run);

@@ -1,7 +1,7 @@
 //! Machines and memories that are refused before any step, and some that just pass.
 
 use super::numbers::{any_cap, edge, longest};
-use super::stage::{code_address, code_cap, empty_stage, put_line, put_words};
+use super::stage::{code_address, code_cap, empty_stage, put_line, put_words, Setting};
 use super::RunCase;
 use crate::random::Random;
 use crate::{Cap, Machine, OTYPE_MASK, PERMS_MASK};
@@ -34,7 +34,7 @@ pub fn pairs() -> Vec<Pair> {
 }
 
 pub fn refused(random: &mut Random, pair: Pair) -> RunCase {
-    let mut run = empty_stage(random);
+    let mut run = empty_stage(random, Setting::Free);
     let address = code_address(random, &run, 2);
     run.machine.pcc = code_cap(random, address, 1);
     put_words(&mut run, address, &[0, 0]);

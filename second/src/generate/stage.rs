@@ -2,6 +2,7 @@
 
 use super::numbers::{any_cap, edge, longest, otype, permissions};
 use super::RunCase;
+use crate::bench::BENCH_RAM;
 use crate::random::Random;
 use crate::{Cap, ACCESS_EPCC, ACCESS_KR2C, LINE, PERMIT_EXECUTE, RAM_BASE};
 
@@ -11,10 +12,22 @@ const BREAK: u32 = 0x0000_000D;
 /// The bits that open C27 to C31.
 pub const ACCESS_BITS: u32 = (1 << (ACCESS_KR2C + 1)) - (1 << ACCESS_EPCC);
 
+/// What a run is made for.
+#[derive(Clone, Copy, PartialEq, Eq, Debug)]
+pub enum Setting {
+    /// Memories of any size, and a jump may be handed in.
+    Free,
+    /// The bench's RAM and nothing pending, as a book can say it.
+    Bench,
+}
+
 /// A run with memories that hold something, and no code yet.
-pub fn empty_stage(random: &mut Random) -> RunCase {
+pub fn empty_stage(random: &mut Random, setting: Setting) -> RunCase {
     let flash_length = memory_length(random);
-    let ram_length = memory_length(random);
+    let ram_length = match setting {
+        Setting::Free => memory_length(random),
+        Setting::Bench => BENCH_RAM,
+    };
     let mut run = RunCase {
         flash: vec![0; flash_length],
         ram: vec![0; ram_length],
