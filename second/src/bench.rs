@@ -30,6 +30,11 @@ pub fn bench_line(book: &[u8], flash: &[u8]) -> [u64; 5] {
     ]
 }
 
+/// The line as it is printed: decimal numbers with a space between them.
+pub fn line_text(line: &[u64; 5]) -> String {
+    line.map(|number| number.to_string()).join(" ")
+}
+
 fn refused(number: u32) -> [u64; 5] {
     [u64::from(number), 0, 0, 0, 0]
 }

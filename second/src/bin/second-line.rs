@@ -10,8 +10,7 @@ fn main() {
     let book = read_file("start.book");
     let flash = read_file("flash.bin");
     let line = second::bench_line(&book, &flash);
-    let words: Vec<String> = line.iter().map(u64::to_string).collect();
-    println!("{}", words.join(" "));
+    println!("{}", second::bench::line_text(&line));
 }
 
 /// A file that cannot be opened, or read, counts as empty.
