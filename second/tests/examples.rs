@@ -141,3 +141,38 @@ fn the_two_ways_to_a_line_have_one_start() {
     let book = |name: &str| made(&examples().join(name)).book;
     assert!(book("fetching_reads_too") == book("execute_is_no_load"));
 }
+
+/// The course with its line breaks taken out.
+fn course() -> String {
+    let course = text(&examples().join("../docs"), "TEACHING.md");
+    course.split_whitespace().collect::<Vec<&str>>().join(" ")
+}
+
+#[test]
+fn the_course_tells_each_line_as_it_is() {
+    let course = course();
+    let mut told = 0;
+    for part in course.split("`./bench examples/").skip(1) {
+        let (name, rest) = part.split_once("` prints `").expect("a folder and its line");
+        let (line, _) = rest.split_once('`').expect("a whole line");
+        assert_eq!(text(&examples().join(name), "line.txt").trim_end(), line, "{name}");
+        told += 1;
+    }
+    // All but the first program, whose run the course shows whole.
+    assert_eq!(told, NAMED.len() - 1);
+    let first = text(&examples().join("first"), "line.txt");
+    assert!(course.contains("./bench runs `examples/first`"));
+    assert!(course.contains(first.trim_end()));
+}
+
+#[test]
+fn every_file_that_the_course_names_is_there() {
+    let root = examples().join("..");
+    let course = course();
+    let named: Vec<&str> =
+        course.split('`').skip(1).step_by(2).filter(|name| name.starts_with("crates/")).collect();
+    assert!(named.len() > 20);
+    for name in named {
+        assert!(root.join(name).exists(), "{name}");
+    }
+}
