@@ -50,7 +50,7 @@ answerIn ram tags book flash =
 module _ (book flash ram tags : List ℕ) where
   -- an accepted book sets all of RAM and all tags, and a run accepts it
   started : (v : Verdict) → judged book (length flash) (length ram) (length tags) ≡ v
-      → startedBy v flash (startAs v book ram tags) .answer ≡ answering (length ram) (length tags) book flash v
+      → startedBy BUDGET v flash (startAs v book ram tags) .answer ≡ answering (length ram) (length tags) book flash v
   unfolding answering runOf readBook enterBook
   started Verdict.Accepted e =
       let h = rw e at (read-is-accepted book flash ram tags e) in
@@ -65,7 +65,7 @@ module _ (book flash ram tags : List ℕ) where
       v = judged book (length flash) (length ram) (length tags)
 
       go : (fits : Bool)
-          → cond (fits && eqb (length ram) BENCH-RAM) (startedBy v flash (startAs v book ram tags))
+          → cond (fits && eqb (length ram) BENCH-RAM) (startedBy BUDGET v flash (startAs v book ram tags))
           (record { answer = refusing Refusal.Sizes; ram = ram; tags = tags }) .answer
           ≡ cond fits (answering (length ram) (length tags) book flash v) (refusing Refusal.Sizes)
       go true = rw (eq-eqb (length ram) BENCH-RAM e) (started v refl)

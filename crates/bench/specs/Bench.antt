@@ -42,12 +42,13 @@ abbrev pub ran : Result → Benched
 ran r = record { answer = answerOf (r .outcome); ram = r .ram; tags = r .tags }
 
 -- a refused book makes no step and changes nothing; an accepted one is run
-abbrev pub startedBy : Verdict → List ℕ → Start → Benched
-startedBy Verdict.Accepted flash s = ran (runOf BUDGET flash (s .machine) (s .ram) (s .tags))
-startedBy (Verdict.Refused refusal) flash s = record { answer = refusing refusal; ram = s .ram; tags = s .tags }
+abbrev pub startedBy : ℕ → Verdict → List ℕ → Start → Benched
+startedBy budget Verdict.Accepted flash s = ran (runOf budget flash (s .machine) (s .ram) (s .tags))
+startedBy budget (Verdict.Refused refusal) flash s = record { answer = refusing refusal; ram = s .ram; tags = s .tags }
 
-unfoldable pub bookRun : List ℕ → List ℕ → List ℕ → List ℕ → Benched
-bookRun book flash ram tags = startedBy (judged book (length flash) (length ram) (length tags)) flash (readBook book (length flash) ram tags)
+unfoldable pub bookRun : ℕ → List ℕ → List ℕ → List ℕ → List ℕ → Benched
+bookRun budget book flash ram tags =
+    startedBy budget (judged book (length flash) (length ram) (length tags)) flash (readBook book (length flash) ram tags)
 
 -- a file over 65,536 bytes is 20 (a flash over it is of a wrong size in any case), and so is a RAM that is not the bench's
 abbrev pub benchFits : ℕ → ℕ → Bool
@@ -55,5 +56,5 @@ benchFits book ram = leb book FILE-MOST && eqb ram BENCH-RAM
 
 unfoldable pub benchOf : List ℕ → List ℕ → List ℕ → List ℕ → Benched
 benchOf book flash ram tags =
-    cond (benchFits (length book) (length ram)) (bookRun book flash ram tags)
+    cond (benchFits (length book) (length ram)) (bookRun BUDGET book flash ram tags)
     (record { answer = refusing Refusal.Sizes; ram = ram; tags = tags })

@@ -50,11 +50,11 @@ fn refusing(refusal: Refusal) -> Answer
     }
 }
 
-// The book read and, where it is accepted, run.
-fn run_book(book: &[u8], flash: &[u8], ram: &mut [u8], tags: &mut [u8]) -> Answer
-    ensures { λ r. ⌜ r ≡ bookRun (now (book .entry)) (now (flash .entry)) (now (ram .entry)) (now (tags .entry)) .answer ⌝ }
-    ensures { λ _. ⌜ now (ram .exit) ≡ bookRun (now (book .entry)) (now (flash .entry)) (now (ram .entry)) (now (tags .entry)) .ram ⌝ }
-    ensures { λ _. ⌜ now (tags .exit) ≡ bookRun (now (book .entry)) (now (flash .entry)) (now (ram .entry)) (now (tags .entry)) .tags ⌝ }
+// The book read and, where it is accepted, run, with memories of any size and any budget.
+pub fn run_book(book: &[u8], flash: &[u8], ram: &mut [u8], tags: &mut [u8], budget: u32) -> Answer
+    ensures answer { λ r. ⌜ r ≡ bookRun budget (now (book .entry)) (now (flash .entry)) (now (ram .entry)) (now (tags .entry)) .answer ⌝ }
+    ensures ram { λ _. ⌜ now (ram .exit) ≡ bookRun budget (now (book .entry)) (now (flash .entry)) (now (ram .entry)) (now (tags .entry)) .ram ⌝ }
+    ensures tags { λ _. ⌜ now (tags .exit) ≡ bookRun budget (now (book .entry)) (now (flash .entry)) (now (ram .entry)) (now (tags .entry)) .tags ⌝ }
 {
     let started = enter::read_book(book, flash.len(), ram, tags);
     let verdict = started.verdict;
@@ -62,7 +62,7 @@ fn run_book(book: &[u8], flash: &[u8], ram: &mut [u8], tags: &mut [u8]) -> Answe
         Verdict::Refused(refusal) => refusing(refusal),
         Verdict::Accepted => {
             let m = started.machine;
-            answer_of(machine::run(m, flash, ram, tags, BUDGET))
+            answer_of(machine::run(m, flash, ram, tags, budget))
         }
     }
 }
@@ -81,7 +81,7 @@ pub fn bench(book: &[u8], flash: &[u8], ram: &mut [u8], tags: &mut [u8]) -> Answ
     ensures tags { λ _. ⌜ now (tags .exit) ≡ benchOf (now (book .entry)) (now (flash .entry)) (now (ram .entry)) (now (tags .entry)) .tags ⌝ }
 {
     if bench_fits(book.len(), ram.len()) {
-        return run_book(book, flash, ram, tags);
+        return run_book(book, flash, ram, tags, BUDGET);
     }
     refusing(Refusal::Sizes)
 }
