@@ -1,0 +1,42 @@
+-- Records of one length each, one after the other, and all registers of a machine. Assumes nothing.
+use Prim.Native.Nat.{ℕ, _+_, _*_, _≤_}
+use mathlib.Core.Path.{_≡_, refl, sym, _∙_, ap}
+use mathlib.Core.List.{List, [], _∷_, _++_}
+use native.Mathlib.Omega.{arith}
+use lib.ListN.{length, take, drop}
+use Rattle.mem.specs.Number.{toBe}
+use Rattle.mem.specs.Store.{put}
+use Rattle.mem.proofs.Stores.{put-fits}
+use Rattle.compose.specs.Compose.{recordOf, capBody}
+use Rattle.compose.proofs.Fields.{cap-bytes}
+use Rattle.state.specs.declared.Machine.{Machine}
+use Rattle.write.specs.Run.{Runs}
+use Rattle.write.specs.Write.{pieces}
+use Rattle.write.proofs.Pieces.{run-next, runs-put, runs-on}
+use Rattle.pommerzil.specs.Registers.{capRecords, generalRecords, registersOf, REGISTERS}
+use Rattle.pommerzil.specs.Exported.{over}
+
+-- one record more, behind those that are there
+pub even-next : (l : List ℕ) (at first : ℕ) (piece : ℕ → List ℕ) (k m : List ℕ) (end last n j : ℕ) → j ≡ first + n → last ≡ end + length (piece j)
+    → Runs l at (pieces n first piece) k end → m ≡ put k end (piece j) → Runs l at (pieces (n + 1) first piece) m last
+even-next l at first piece k m end last n j e h r p = run-next l at first piece k m end last n j e r (runs-put k m end last (piece j) p h)
+
+version : toBe 1 1 ≡ 1 ∷ []
+unfolding toBe
+version = refl
+
+-- the version, the capability registers, PCC, the general registers
+pub registers-run : (m : Machine) (l l₁ l₂ l₃ l₄ : List ℕ) → l₁ ≡ put l 0 (toBe 1 1) → Runs l₁ 1 (capRecords (m .caps)) l₂ 1217
+    → l₃ ≡ put l₂ 1217 (recordOf (capBody 32 (m .pcc))) → Runs l₃ 1255 (generalRecords (m .general)) l₄ 1627 → Runs l 0 (registersOf m) l₄ REGISTERS
+unfolding registersOf
+registers-run m l l₁ l₂ l₃ l₄ p r₂ q r₄ =
+    let c = recordOf (capBody 32 (m .pcc)) in
+    runs-on l l₁ l₄ 0 1 1627 (1 ∷ []) _ (runs-put l l₁ 0 1 (1 ∷ []) (p ∙ ap (put l 0) version) refl)
+    (runs-on l₁ l₂ l₄ 1 1217 1627 (capRecords (m .caps)) _ r₂
+    (runs-on l₂ l₃ l₄ 1217 1255 1627 c (generalRecords (m .general)) (runs-put l₂ l₃ 1217 1255 c q (sym (ap (λ n. 1217 + n) (cap-bytes 32 (m .pcc))))) r₄))
+
+-- a run from byte 0 on that fits stands at the front
+pub fronted : (l bytes k : List ℕ) (end : ℕ) → end ≤ length l → Runs l 0 bytes k end → k ≡ over bytes l
+fronted l bytes k end h r =
+    let z : 0 + length bytes ≡ length bytes = omega arith in
+    r .stands (omega (arith, r .ends, h)) ∙ put-fits l 0 bytes (omega (arith, r .ends, h)) ∙ rw z

@@ -1,0 +1,176 @@
+// The model as a static library for C: numbers and lent buffers in, 01's number out. include/pommerzil.h is its header.
+use bench::Answer;
+use book::Verdict;
+use cap::Cap;
+use compose::CAP_RECORD;
+use compose::GENERAL_RECORD;
+use record::PCC;
+use record::Refusal;
+use state::Machine;
+use write::Written;
+ghost use mathlib.Core.Path.{_≡_};
+ghost use Prim.Native.Nat.{_≤_};
+ghost use lib.ListN.{length};
+ghost use Rattle.write.specs.Run.{Runs};
+ghost use Rattle.pommerzil.specs.Registers.{capRecords, generalRecords, registersOf};
+ghost use Rattle.pommerzil.specs.Exported.{over, numbersOf, runInto, readInto, writeFrom, codeOf, bytesOf};
+
+// The numbers of an answer: stop or refusal, cause code, register, place, steps.
+const ANSWER_NUMBERS: usize = 5;
+
+// Where the records of PCC and of general register 1 stand among the registers, and where the last one ends.
+const PCC_RECORD: usize = 1217;
+
+const GENERAL_RECORDS: usize = 1255;
+
+const REGISTERS: usize = 1627;
+
+fn put_answer(a: Answer, answer: &mut [u64])
+    requires { ⌜ 5 ≤ length (now answer) ⌝ }
+    ensures { λ _. ⌜ now (answer .exit) ≡ over (numbersOf a) (now (answer .entry)) ⌝ }
+{
+    answer[0] = a.stop as u64;
+    answer[1] = a.cause as u64;
+    answer[2] = a.register as u64;
+    answer[3] = a.place;
+    answer[4] = a.steps as u64;
+}
+
+// Reads a book and runs it: the stop or the refusal, and the whole answer in `answer`.
+#[no_mangle]
+pub extern "C" fn pommerzil_run(
+    book: &[u8],
+    flash: &[u8],
+    ram: &mut [u8],
+    tags: &mut [u8],
+    budget: u32,
+    answer: &mut [u64],
+) -> u8
+    ensures code { λ r. ⌜ r ≡ runInto budget (now (book .entry)) (now (flash .entry)) (now (ram .entry)) (now (tags .entry)) (now (answer .entry)) .code ⌝ }
+    ensures ram { λ _. ⌜ now (ram .exit) ≡ runInto budget (now (book .entry)) (now (flash .entry)) (now (ram .entry)) (now (tags .entry)) (now (answer .entry)) .ram ⌝ }
+    ensures tags { λ _. ⌜ now (tags .exit) ≡ runInto budget (now (book .entry)) (now (flash .entry)) (now (ram .entry)) (now (tags .entry)) (now (answer .entry)) .tags ⌝ }
+    ensures answer { λ _. ⌜ now (answer .exit) ≡ runInto budget (now (book .entry)) (now (flash .entry)) (now (ram .entry)) (now (tags .entry)) (now (answer .entry)) .answer ⌝ }
+{
+    if answer.len() < ANSWER_NUMBERS {
+        return record::refusal_number(Refusal::Room);
+    }
+    let a = bench::run_book(book, flash, ram, tags, budget);
+    put_answer(a, answer);
+    a.stop
+}
+
+// C0 to C31, one record each.
+fn put_caps(caps: [Cap; 32], out: &mut [u8])
+    ensures { λ _. ⌜ Runs (now (out .entry)) 1 (capRecords caps) (now (out .exit)) 1217 ⌝ }
+{
+    let mut i = 0;
+    while i < 32 {
+        let c = caps[i];
+        compose::put_cap(out, 1 + CAP_RECORD * i, i as u8, c);
+        i += 1;
+    }
+}
+
+// General registers 1 to 31, one record each.
+fn put_generals(general: [u64; 32], out: &mut [u8])
+    ensures { λ _. ⌜ Runs (now (out .entry)) 1255 (generalRecords general) (now (out .exit)) 1627 ⌝ }
+{
+    let mut i = 0;
+    while i < 31 {
+        let at = GENERAL_RECORDS + GENERAL_RECORD * i;
+        i += 1;
+        compose::put_general(out, at, i as u8, general[i]);
+    }
+}
+
+// Every register of a machine, zero or not.
+fn put_registers(m: Machine, out: &mut [u8])
+    requires { ⌜ 1627 ≤ length (now out) ⌝ }
+    ensures { λ _. ⌜ now (out .exit) ≡ over (registersOf m) (now (out .entry)) ⌝ }
+{
+    let caps = m.caps;
+    let pcc = m.pcc;
+    let general = m.general;
+    mem::put_be(out, 0, 1, 1);
+    put_caps(caps, out);
+    compose::put_cap(out, PCC_RECORD, PCC, pcc);
+    put_generals(general, out);
+}
+
+// Reads a book: 0 or the refusal, the registers that it gives in `registers`, and its RAM and its tags.
+#[no_mangle]
+pub extern "C" fn pommerzil_read(
+    book: &[u8],
+    flash: usize,
+    ram: &mut [u8],
+    tags: &mut [u8],
+    registers: &mut [u8],
+) -> u8
+    ensures code { λ r. ⌜ r ≡ readInto (now (book .entry)) flash (now (ram .entry)) (now (tags .entry)) (now (registers .entry)) .code ⌝ }
+    ensures ram { λ _. ⌜ now (ram .exit) ≡ readInto (now (book .entry)) flash (now (ram .entry)) (now (tags .entry)) (now (registers .entry)) .ram ⌝ }
+    ensures tags { λ _. ⌜ now (tags .exit) ≡ readInto (now (book .entry)) flash (now (ram .entry)) (now (tags .entry)) (now (registers .entry)) .tags ⌝ }
+    ensures registers { λ _. ⌜ now (registers .exit) ≡ readInto (now (book .entry)) flash (now (ram .entry)) (now (tags .entry)) (now (registers .entry)) .registers ⌝ }
+{
+    if registers.len() < REGISTERS {
+        return record::refusal_number(Refusal::Room);
+    }
+    let started = enter::read_book(book, flash, ram, tags);
+    let verdict = started.verdict;
+    let m = started.machine;
+    put_registers(m, registers);
+    enter::verdict_number(verdict)
+}
+
+// The registers read, as a book for no memory, and the book of that machine, RAM and tags written.
+fn write_from(registers: &[u8], ram: &[u8], tags: &[u8], book: &mut [u8]) -> Written
+    ensures { λ r. ⌜ r ≡ writeFrom (now (registers .entry)) (now (ram .entry)) (now (tags .entry)) (now (book .entry)) .written ⌝ }
+    ensures { λ _. ⌜ now (book .exit) ≡ writeFrom (now (registers .entry)) (now (ram .entry)) (now (tags .entry)) (now (book .entry)) .out ⌝ }
+{
+    let mut no_ram: [u8; 0] = [0; 0];
+    let mut no_tags: [u8; 0] = [0; 0];
+    let started = enter::read_book(registers, 0, &mut no_ram, &mut no_tags);
+    let verdict = started.verdict;
+    match verdict {
+        Verdict::Refused(refusal) => Written::Refused(refusal),
+        Verdict::Accepted => {
+            let m = started.machine;
+            write::write_book(m, ram, tags, book)
+        }
+    }
+}
+
+fn code_of(written: Written) -> u8
+    ensures { λ r. ⌜ r ≡ codeOf written ⌝ }
+{
+    match written {
+        Written::Book(_) => 0,
+        Written::Refused(refusal) => record::refusal_number(refusal),
+    }
+}
+
+fn bytes_of(written: Written) -> usize
+    ensures { λ r. ⌜ r ≡ bytesOf written ⌝ }
+{
+    match written {
+        Written::Book(bytes) => bytes,
+        Written::Refused(_) => 0,
+    }
+}
+
+// Writes a book: 0 or the refusal, the book from byte 0 of `book` on, and in `written` how many bytes it has.
+#[no_mangle]
+pub extern "C" fn pommerzil_write(
+    registers: &[u8],
+    ram: &[u8],
+    tags: &[u8],
+    book: &mut [u8],
+    written: &mut usize,
+) -> u8
+    ensures code { λ r. ⌜ r ≡ codeOf (writeFrom (now (registers .entry)) (now (ram .entry)) (now (tags .entry)) (now (book .entry)) .written) ⌝ }
+    ensures book { λ _. ⌜ now (book .exit) ≡ writeFrom (now (registers .entry)) (now (ram .entry)) (now (tags .entry)) (now (book .entry)) .out ⌝ }
+    ensures written { λ _. ⌜ now (written .exit) ≡ bytesOf (writeFrom (now (registers .entry)) (now (ram .entry)) (now (tags .entry)) (now (book .entry)) .written) ⌝ }
+{
+    let answer = write_from(registers, ram, tags, book);
+    *written = bytes_of(answer);
+    code_of(answer)
+}
