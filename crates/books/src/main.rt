@@ -56,7 +56,7 @@ fn read_with_ram(
 
 fn read_with_book(body: &[u8], book: &mut [u8], ram: &mut [u8], tags: &mut [u8]) {
     let flash_at = tables::put_memory(book, body, FIRST);
-    let flash = tables::size_4(body, flash_at);
+    let flash = tables::number_4(body, flash_at) as usize;
     let ram_at = tables::after(flash_at, 4);
     let n = tables::size_in(body, ram_at, ram);
     read_with_ram(body, ram_at, book, flash, &mut ram[..n], tags);

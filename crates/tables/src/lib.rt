@@ -9,15 +9,17 @@ use perform::Pending;
 use state::Machine;
 ghost use mathlib.Core.Path.{_≡_};
 ghost use mathlib.Core.List.{flatMap};
-ghost use Prim.Native.Nat.{_≤_};
+ghost use Prim.Native.Nat.{_≤_, min};
+ghost use lib.ListN.{length, replicate};
 ghost use Rattle.io.specs.Counts.{Counts};
 ghost use Rattle.mem.specs.Number.{toBe};
-ghost use Rattle.tables.specs.Tables.{byteAt, placeAfter, numberAt, number4, generalCount, capCount, machineEnd};
+ghost use Rattle.mem.specs.Store.{put};
+ghost use Rattle.tables.specs.Tables.{byteAt, placeAfter, partAt, numberAt, number4, generalIn, capCount, capIn, withNamed, machineIn, machineEnd, pieceEnd, withPiece, memoryEnd, memoryIn};
 ghost use Rattle.tables.specs.Sums.{sumWith, checksum, capBytes, pendingBytes, machineBytes};
 
-const PCC: usize = 32;
+const PCC: u8 = 32;
 
-const PENDING: usize = 33;
+const PENDING: u8 = 33;
 
 // What is read past the end is 0.
 pub fn byte(s: &[u8], at: usize) -> u8
@@ -38,15 +40,22 @@ pub fn after(at: usize, bytes: usize) -> usize
     std::num::wrapping_add_usize(at, bytes)
 }
 
+// The bytes at a place; none where they are cut.
+fn part(s: &[u8], at: usize, size: usize) -> &[u8]
+    ensures { λ r. ⌜ now r ≡ partAt (now (s .entry)) at size ⌝ }
+{
+    if size <= s.len() {
+        if at <= s.len() - size {
+            return &s[at..at + size];
+        }
+    }
+    &s[..0]
+}
+
 fn number(s: &[u8], at: usize, size: usize) -> u64
     ensures { λ r. ⌜ r ≡ numberAt (now (s .entry)) at size ⌝ }
 {
-    if at < s.len() {
-        if size <= s.len() - at {
-            return mem::load_be(&s[at..at + size]);
-        }
-    }
-    0
+    mem::load_be(part(s, at, size))
 }
 
 pub fn number_4(s: &[u8], at: usize) -> u32
@@ -55,105 +64,98 @@ pub fn number_4(s: &[u8], at: usize) -> u32
     (number(s, at, 4) % 0x1_0000_0000) as u32
 }
 
-fn number_2(s: &[u8], at: usize) -> u16 {
-    (number(s, at, 2) % 0x1_0000) as u16
-}
-
-pub fn size_4(s: &[u8], at: usize) -> usize
-    ensures { λ r. ⌜ r ≡ number4 (now (s .entry)) at ⌝ }
-{
-    number_4(s, at) as usize
-}
-
-fn size_2(s: &[u8], at: usize) -> usize {
-    number_2(s, at) as usize
-}
-
-// Where the count of general registers stands, of the machine at `start`; below, where that of capabilities does.
-fn general_count(start: usize) -> usize
-    ensures { λ r. ⌜ r ≡ generalCount start ⌝ }
-{
-    after(start, 2)
-}
-
+// Where the count of capabilities stands, of the machine at `start`.
 fn cap_count(body: &[u8], start: usize) -> usize
     ensures { λ r. ⌜ r ≡ capCount (now (body .entry)) start ⌝ }
 {
-    let count = general_count(start);
+    let count = after(start, 2);
     after(after(count, 1), 9 * wide(byte(body, count)))
 }
 
-fn general_in(body: &[u8], start: usize) -> [u64; 32] {
+// The general registers of the machine that stands at `start`.
+fn general_in(body: &[u8], start: usize) -> [u64; 32]
+    ensures { λ r. ⌜ r ≡ generalIn (now (body .entry)) start ⌝ }
+{
     let mut general: [u64; 32] = [0; 32];
-    let count = general_count(start);
+    let count = after(start, 2);
     let mut at = after(count, 1);
     for _ in 0..byte(body, count) {
         let register = wide(byte(body, at));
+        let value = number(body, after(at, 1), 8);
         if register < 32 {
-            general[register] = number(body, after(at, 1), 8);
+            general[register] = value;
         }
         at = after(at, 9);
     }
     general
 }
 
-fn cap_at(s: &[u8], at: usize) -> Cap {
-    let base = Address(number(s, after(at, 11), 8));
-    let offset = Offset(number(s, after(at, 27), 8));
+// The capability of these bytes, as a case has it.
+fn cap_in(fields: &[u8]) -> Cap
+    ensures { λ r. ⌜ r ≡ capIn (now (fields .entry)) ⌝ }
+{
+    let base = Address(number(fields, 11, 8));
+    let offset = Offset(number(fields, 27, 8));
     Cap {
-        tag: byte(s, at) == 1,
-        sealed: byte(s, after(at, 1)) == 1,
-        spare: byte(s, after(at, 2)),
-        otype: number_4(s, after(at, 3)),
-        perms: number_4(s, after(at, 7)),
+        tag: byte(fields, 0) == 1,
+        sealed: byte(fields, 1) == 1,
+        spare: byte(fields, 2),
+        otype: number_4(fields, 3),
+        perms: number_4(fields, 7),
         base,
-        length: number(s, after(at, 19), 8),
+        length: number(fields, 19, 8),
         offset,
     }
 }
 
-// The capability of this number, if the case names it.
-fn named(body: &[u8], start: usize, which: usize) -> Pending {
-    let count = cap_count(body, start);
-    let mut at = after(count, 1);
-    for _ in 0..byte(body, count) {
-        if wide(byte(body, at)) == which {
-            return Pending::Jump(cap_at(body, after(at, 1)));
-        }
-        at = after(at, 36);
+// The machine with this capability in the place that its number names.
+fn with_named(mut m: Machine, number: u8, c: Cap) -> Machine
+    ensures { λ r. ⌜ r ≡ withNamed number c m ⌝ }
+{
+    if number < 32 {
+        let i = number as usize;
+        m.caps[i] = c;
+        return m;
     }
-    Pending::Quiet
-}
-
-fn cap_in(body: &[u8], start: usize, which: usize) -> Cap {
-    let found = named(body, start, which);
-    match found {
-        Pending::Jump(c) => c,
-        Pending::Quiet => cap::narrow::no_cap(),
+    if number == PCC {
+        m.pcc = c;
+        return m;
     }
-}
-
-fn caps_in(body: &[u8], start: usize) -> [Cap; 32] {
-    let mut caps = [cap::narrow::no_cap(); 32];
-    for i in 0..32 {
-        caps[i] = cap_in(body, start, i);
+    if number == PENDING {
+        let general = m.general;
+        let caps = m.caps;
+        let pcc = m.pcc;
+        return Machine {
+            general,
+            caps,
+            pcc,
+            pending: Pending::Jump(c),
+            cause: m.cause,
+        };
     }
-    caps
+    m
 }
 
 // The machine that stands at `start`.
-pub fn machine_in(body: &[u8], start: usize) -> Machine {
+pub fn machine_in(body: &[u8], start: usize) -> Machine
+    ensures { λ r. ⌜ r ≡ machineIn (now (body .entry)) start ⌝ }
+{
+    let none = cap::narrow::no_cap();
     let general = general_in(body, start);
-    let caps = caps_in(body, start);
-    let pcc = cap_in(body, start, PCC);
-    let pending = named(body, start, PENDING);
-    Machine {
+    let mut m = Machine {
         general,
-        caps,
-        pcc,
-        pending,
-        cause: number_2(body, start),
+        caps: [none; 32],
+        pcc: none,
+        pending: Pending::Quiet,
+        cause: (number(body, start, 2) % 0x1_0000) as u16,
+    };
+    let count = cap_count(body, start);
+    let mut at = after(count, 1);
+    for _ in 0..byte(body, count) {
+        m = with_named(m, byte(body, at), cap_in(part(body, after(at, 1), 35)));
+        at = after(at, 36);
     }
+    m
 }
 
 // Where the machine that stands at `start` ends.
@@ -164,31 +166,43 @@ pub fn machine_end(body: &[u8], start: usize) -> usize
     after(after(at, 1), 36 * wide(byte(body, at)))
 }
 
-fn put(memory: &mut [u8], at: usize, b: u8) {
-    if at < memory.len() {
-        memory[at] = b;
+// Every byte this one.
+pub fn fill(memory: &mut [u8], b: u8)
+    ensures { λ _. ⌜ now (memory .exit) ≡ replicate (length (now (memory .entry))) b ⌝ }
+{
+    for i in 0..memory.len() {
+        memory[i] = b;
     }
 }
 
-pub fn fill(memory: &mut [u8], b: u8) {
-    for i in 0..memory.len() {
-        put(memory, i, b);
+// Writes bytes at a place; nothing where they do not fit.
+fn put_at(memory: &mut [u8], place: usize, piece: &[u8])
+    ensures { λ _. ⌜ now (memory .exit) ≡ put (now (memory .entry)) place (now (piece .entry)) ⌝ }
+{
+    if piece.len() <= memory.len() {
+        if place <= memory.len() - piece.len() {
+            let end = place + piece.len();
+            bytes::copy(piece, &mut memory[place..end]);
+        }
     }
 }
 
 // Writes the piece that stands at `at`, and answers where the next stands.
-fn put_piece(memory: &mut [u8], body: &[u8], at: usize) -> usize {
-    let place = size_4(body, at);
-    let size = size_2(body, after(at, 4));
+fn put_piece(memory: &mut [u8], body: &[u8], at: usize) -> usize
+    ensures { λ r. ⌜ r ≡ pieceEnd (now (body .entry)) at ⌝ }
+    ensures { λ _. ⌜ now (memory .exit) ≡ withPiece (now (body .entry)) at (now (memory .entry)) ⌝ }
+{
+    let size = number(body, after(at, 4), 2) as usize;
     let from = after(at, 6);
-    for i in 0..size {
-        put(memory, after(place, i), byte(body, after(from, i)));
-    }
+    put_at(memory, number_4(body, at) as usize, part(body, from, size));
     after(from, size)
 }
 
 // Writes the memory that stands at `start`, and answers where the next stands.
-pub fn put_memory(memory: &mut [u8], body: &[u8], start: usize) -> usize {
+pub fn put_memory(memory: &mut [u8], body: &[u8], start: usize) -> usize
+    ensures { λ r. ⌜ r ≡ memoryEnd (now (body .entry)) start ⌝ }
+    ensures { λ _. ⌜ now (memory .exit) ≡ memoryIn (now (body .entry)) start (length (now (memory .entry))) ⌝ }
+{
     fill(memory, byte(body, after(start, 4)));
     let mut at = after(start, 9);
     for _ in 0..number_4(body, after(start, 5)) {
@@ -200,8 +214,14 @@ pub fn put_memory(memory: &mut [u8], body: &[u8], start: usize) -> usize {
 // The size that stands at `at`, or the whole space where that is less.
 pub fn size_in<'a>(s: &'a [u8], at: usize, space: &'a [u8]) -> usize
     ensures { λ r. ⌜ Counts r (now (space .entry)) ⌝ }
+    ensures { λ r. ⌜ r ≡ min (number4 (now (s .entry)) at) (length (now (space .entry))) ⌝ }
 {
-    io::count(number_4(s, at) as isize, space)
+    let size = number_4(s, at) as usize;
+    if size < space.len() {
+        size
+    } else {
+        space.len()
+    }
 }
 
 // The checksum with a byte more; below, with a number of 2, 4 and 8 bytes more.
@@ -293,12 +313,13 @@ pub fn sum_bytes(bytes: &[u8]) -> u64
     sum
 }
 
+// Prints a number in decimal, and a byte after it: no contract can say what is written.
 pub fn print(n: u64, end: u8) {
     io::print_decimal(STDOUT_FILENO, n);
     io::write_all(STDOUT_FILENO, &[end]);
 }
 
-// Reads a case into this space: how many bytes its body has, 0 where there is none.
+// Reads a case into this space: how many bytes its body has, 0 where there is none. No contract can say which bytes are read.
 pub fn next_body(space: &mut [u8]) -> usize
     ensures { λ r. ⌜ Counts r (now (space .exit)) ⌝ }
 {

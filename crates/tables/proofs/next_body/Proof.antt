@@ -1,19 +1,16 @@
 -- `tables::next_body` counts bytes of its space. Assumes nothing.
-use mathlib.Core.Path.{_≡_, sym}
 use mathlib.Core.List.{List, _++_}
 use Prim.Native.Nat.{ℕ, _≤_}
 use lib.ListN.{length, drop, length-append}
-use lib.Seq.{length-take-le}
 use native.Mathlib.Omega.{arith}
 use borrow.Author.Needs.{needs}
 use Rattle.io.specs.Counts.{Counts}
+use Rattle.tables.proofs.Laws.{counts}
 use Rattle.tables.proofs.next_body.Statement.{statement}
 use Rattle.tables.proofs.next_body.Tie as tie
 
 counts-front : (n : ℕ) (a b : List ℕ) → n ≤ length a → Counts n (a ++ b)
-counts-front n a b h =
-    let fits : n ≤ length (a ++ b) = (rw length-append (omega arith)) in
-    (fits, sym (length-take-le n (a ++ b) fits))
+counts-front n a b h = counts n (a ++ b) (rw length-append (omega arith))
 
 returns-2 : tie.Need-returns-2
 returns-2 c =

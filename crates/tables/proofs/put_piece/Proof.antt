@@ -1,35 +1,28 @@
--- `tables::put_piece` is safe and ends. Assumes nothing.
-use Prim.Native.Nat.{_-_}
-use mathlib.Core.Path.{_≡_}
-use lib.ListN.{length}
+use Rattle.mem.proofs.Calls.{asks}
 use borrow.Author.Needs.{needs}
+use Rattle.tables.specs.Tables.{pieceEnd, withPiece}
 use Rattle.tables.proofs.put_piece.Statement.{statement}
 use Rattle.tables.proofs.put_piece.Tie as tie
 
-abbrev Inv-loop : tie.InvT-loop
-Inv-loop memory₀ body at place size from i₀ memory i = length memory ≡ length memory₀
-
-abbrev μ-loop : tie.MeasureT-loop
-μ-loop memory₀ body at place size from i₀ memory i = size - i
+returns : tie.Need-returns
+unfolding pieceEnd withPiece
+returns c =
+    let p = c .before .before .before in
+    let a = p .before .before .before .before in
+    rw (← a .before .before .after .ensures, ← a .before .number .ensures, ← a .after2 .ensures, ← p .before .before .number-4 .ensures, ← p .before .part .ensures)
+    (c .after3 .ensures, p .put-at .ensures)
 
 pub put-piece-spec : {M : Type 1} → statement M
 put-piece-spec =
     tie.close
     (tie.spec
-    Inv-loop
-    μ-loop
-    (λ c κs. search needs)
-    (λ c κs. search needs)
-    (λ c κs. search needs)
-    (λ c κs. search needs)
+    asks
+    asks
+    asks
+    asks
     (λ c. search needs)
-    (λ c κs. search needs)
-    (λ c κs. search needs)
-    (λ c κs. search needs)
-    (λ c κs. search needs)
+    asks
+    asks
+    asks
     (λ c. search needs)
-    (λ c. search needs)
-    (λ c. search needs)
-    (λ c κs. search needs)
-    (λ c. search needs)
-    (λ c. search needs))
+    returns)
