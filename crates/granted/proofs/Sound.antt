@@ -44,7 +44,7 @@ pub record Lines (lines : ℕ) (ram tags : List ℕ) : Type 0 where
   pub fits : (i : ℕ) → i < lines → LineFits ram tags i
 
 -- one element replaced: what holds of it and of all others holds of all
-set-all : {A : Type 0} (P : A → Type 0) (l : List A) (n : ℕ) (a d : A) → P a → ((i : ℕ) → P (getD l i d)) → (i : ℕ) → P (getD (set l n a) i d)
+pub set-all : {A : Type 0} (P : A → Type 0) (l : List A) (n : ℕ) (a d : A) → P a → ((i : ℕ) → P (getD l i d)) → (i : ℕ) → P (getD (set l n a) i d)
 set-all P [] n a d p h i = h i
 set-all P (x ∷ xs) zero a d p h zero = p
 set-all P (x ∷ xs) zero a d p h (suc i) = h (suc i)

@@ -22,15 +22,15 @@ use Rattle.book.specs.declared.Step.{Step}
 use Rattle.book.specs.declared.Verdict.{Verdict}
 use Rattle.book.specs.Book.{kindOf, keyOf, afterHead, stepAt}
 use Rattle.book.proofs.Walks.{more-fits}
-use Rattle.compose.specs.Compose.{recordOf, capBody, generalBody, lineBody, zeroCap, zeroBytes}
+use Rattle.compose.specs.Compose.{recordOf, capBody, generalBody, lineBody, zeroBytes}
 use Rattle.compose.proofs.Fields.{line-bytes}
-use Rattle.write.specs.Write.{lineBytes, bookOf, rests}
+use Rattle.write.specs.Write.{lineBytes, rests}
 use Rattle.enter.specs.Enter.{Start, entered, machineWith, ramWith, tagsWith, enterAll, enterBook, bare, judged, readBook}
 use Rattle.reread.specs.Claims.{Typed, WrittenAndRead}
 use Rattle.reread.proofs.Walked.{Suffix, Passes}
 use Rattle.accept.proofs.Accepted.{both-true, sizes-fit, tag-low, whole-lines, first-zero, bytes-32}
-use Rattle.reread.proofs.Filled.{filled, filled-set, filled-same, filled-all, filled-put, filled-part, zero-cap, zero-part, line-bytes-at}
-use Rattle.reread.proofs.Written.{there, book-walk, book-accepted, taken}
+use Rattle.reread.proofs.Filled.{filled, filled-set, filled-same, filled-all, filled-put, filled-part, zero-part, line-bytes-at}
+use Rattle.reread.proofs.Written.{Omits, bookOmitting, zeros, written-omits, there, book-walk, book-accepted, taken}
 
 -- nothing pending, and no cause
 abbrev with : List Cap → Cap → List ℕ → List ℕ → List ℕ → Start
@@ -58,10 +58,10 @@ tag-byte tags i h = tag-back (getD tags i 0) h
 no-tag : (tags : List ℕ) (i : ℕ) → getD tags i 0 ≤ 1 → tagOf tags i ≡ false → 0 ≡ getD tags i 0
 no-tag tags i h e = sym (ap bit e) ∙ tag-byte tags i h
 
-module _ (m : Machine) (ram tags : List ℕ) (ty : Typed m) (lc : length (m .caps) ≡ 32) (lg : length (m .general) ≡ 32)
+module _ (m : Machine) (o : Omits m) (ram tags : List ℕ) (ty : Typed m) (lc : length (m .caps) ≡ 32) (lg : length (m .general) ≡ 32)
     (v : start.Verdict.Accepted ≡ verdictOf (m .caps) (m .pcc) (m .pending) (getD (m .general) 0 0) 0 ram tags) where
   abbrev book : List ℕ
-  book = bookOf m ram tags
+  book = bookOmitting m o ram tags
 
   abbrev nulls : List Cap
   nulls = replicate 32 null
@@ -100,14 +100,14 @@ module _ (m : Machine) (ram tags : List ℕ) (ty : Typed m) (lc : length (m .cap
   lg′ : length zg ≡ length (m .general)
   lg′ = length-replicate {A = ℕ} 32 0 ∙ sym lg
 
-  cap-passes : (i : ℕ) → i < 32 → Passes book (length ram) (zeroCap (getD (m .caps) i null)) (capBody i (getD (m .caps) i null)) (Entry.Capability i (getD (m .caps) i null)) (Caps i) (Caps (suc i))
+  cap-passes : (i : ℕ) → i < 32 → Passes book (length ram) (o .cap i) (capBody i (getD (m .caps) i null)) (Entry.Capability i (getD (m .caps) i null)) (Caps i) (Caps (suc i))
   unfolding machineWith ramWith tagsWith
   cap-passes i h =
       let c = getD (m .caps) i null in
       let k : i < length (m .caps) = omega (arith, lc) in
       record {
         skip = λ e at kind key g.
-            subst (λ (l : List Cap). At (with l null zg zr zt) at kind key) (sym (filled-same (m .caps) nulls lc′ null i k (getD-replicate 32 i null null h ∙ sym (zero-cap c e)))) g;
+            subst (λ (l : List Cap). At (with l null zg zr zt) at kind key) (sym (filled-same (m .caps) nulls lc′ null i k (getD-replicate 32 i null null h ∙ sym (o .cap-zero i e)))) g;
         over = λ e at rest s kind key x q p l g.
             over (with (filled (m .caps) nulls i) null zg zr zt) at kind key x (Entry.Capability i c) p
             (rw (ne-eqb i 32 (λ z. omega arith), filled-set (m .caps) nulls lc′ null i k) g);
@@ -116,25 +116,25 @@ module _ (m : Machine) (ram tags : List ℕ) (ty : Typed m) (lc : length (m .cap
   first-same : zg ≡ filled (m .general) zg 1
   first-same = filled-same (m .general) zg lg′ 0 0 (omega (arith, lg)) (sym (first-zero (m .caps) (m .pcc) (m .pending) (getD (m .general) 0 0) 0 ram tags v))
 
-  pcc-passes : Passes book (length ram) (zeroCap (m .pcc)) (capBody 32 (m .pcc)) (Entry.Capability 32 (m .pcc)) (Caps 32) (Generals 1)
+  pcc-passes : Passes book (length ram) (o .pcc) (capBody 32 (m .pcc)) (Entry.Capability 32 (m .pcc)) (Caps 32) (Generals 1)
   unfolding machineWith ramWith tagsWith
   pcc-passes =
       let a = filled-all (m .caps) nulls lc′ null 32 (omega (arith, lc)) in
       record {
-        skip = λ e at kind key g. rw (a, first-same) (subst (λ (c : Cap). At (with (m .caps) c (filled (m .general) zg 1) zr zt) at kind key) (zero-cap (m .pcc) e) g);
+        skip = λ e at kind key g. rw (a, first-same) (subst (λ (c : Cap). At (with (m .caps) c (filled (m .general) zg 1) zr zt) at kind key) (o .pcc-zero e) g);
         over = λ e at rest s kind key x q p l g.
             over (with (filled (m .caps) nulls 32) null zg zr zt) at kind key x (Entry.Capability 32 (m .pcc)) p
             (subst (λ (c : List Cap). At (with c (m .pcc) zg zr zt) x 1 32) (sym a) (subst (λ (y : List ℕ). At (with (m .caps) (m .pcc) y zr zt) x 1 32) (sym first-same) g));
       }
 
-  general-passes : (i : ℕ) → 1 ≤ i → i < 32 → Passes book (length ram) (eqb (getD (m .general) i 0) 0) (generalBody i (getD (m .general) i 0)) (Entry.General i (getD (m .general) i 0)) (Generals i) (Generals (suc i))
+  general-passes : (i : ℕ) → 1 ≤ i → i < 32 → Passes book (length ram) (o .general i) (generalBody i (getD (m .general) i 0)) (Entry.General i (getD (m .general) i 0)) (Generals i) (Generals (suc i))
   unfolding machineWith ramWith tagsWith
   general-passes i h₁ h =
       let y = getD (m .general) i 0 in
       let k : i < length (m .general) = omega (arith, lg) in
       record {
         skip = λ e at kind key g.
-            subst (λ (l : List ℕ). At (with (m .caps) (m .pcc) l zr zt) at kind key) (sym (filled-same (m .general) zg lg′ 0 i k (getD-replicate 32 i 0 0 h ∙ sym (eqb-true y 0 e)))) g;
+            subst (λ (l : List ℕ). At (with (m .caps) (m .pcc) l zr zt) at kind key) (sym (filled-same (m .general) zg lg′ 0 i k (getD-replicate 32 i 0 0 h ∙ sym (o .general-zero i e)))) g;
         over = λ e at rest s kind key x q p l g.
             over (with (m .caps) (m .pcc) (filled (m .general) zg i) zr zt) at kind key x (Entry.General i y) p
             (subst (λ (l : List ℕ). At (with (m .caps) (m .pcc) l zr zt) x 2 i) (sym (filled-set (m .general) zg lg′ 0 i k)) g);
@@ -147,7 +147,7 @@ module _ (m : Machine) (ram tags : List ℕ) (ty : Typed m) (lc : length (m .cap
       let t = tagOf tags i in
       let a = RAM-BASE + i * 32 in
       let low = tag-low (m .caps) (m .pcc) (m .pending) (getD (m .general) 0 0) 0 ram tags v i h in
-      let w = there m ram tags ty v in
+      let w = there m o ram tags ty v in
       let r : i * 32 + 32 ≤ length ram = omega (arith, w .0, h) in
       let k : i < 2048 = omega (arith, w .1, h) in
       let er : length zr ≡ length ram = length-replicate {A = ℕ} (length ram) 0 in
@@ -191,7 +191,7 @@ module _ (m : Machine) (ram tags : List ℕ) (ty : Typed m) (lc : length (m .cap
 
   pub book-entered : (n : ℕ) → length book ≤ n + 1
       → enterAll n book (length ram) (stepAt book (length ram) 1 0 0) (bare zr zt) ≡ with (m .caps) (m .pcc) (m .general) ram tags
-  book-entered = book-walk m ram tags ty v book Caps Generals Lines cap-passes pcc-passes general-passes turns line-passes ended refl
+  book-entered = book-walk m o ram tags ty v book Caps Generals Lines cap-passes pcc-passes general-passes turns line-passes ended refl
 
 -- nothing is pending
 quiet : (p : Pending) → not (isPending p) ≡ true → Pending.Quiet ≡ p
@@ -218,13 +218,25 @@ unfolding readBook enterBook
 read-accepted book flash ram tags e =
     rw e (ap (λ (r : ℕ). enterAll (length book) book r (stepAt book r 1 0 0) (bare (replicate (length ram) 0) (replicate (length tags) 0))) (length-replicate {A = ℕ} (length ram) 0))
 
-pub written-and-read : WrittenAndRead
+-- a book that names all registers but some that are zero gives back the machine, the RAM and the tags that it is of
+pub omitting-read : (m : Machine) (o : Omits m) (ram tags : List ℕ) (flash : ℕ) (ram′ tags′ : List ℕ) → Typed m → length (m .caps) ≡ 32 → length (m .general) ≡ 32
+    → start.Verdict.Accepted ≡ verdictOf (m .caps) (m .pcc) (m .pending) (getD (m .general) 0 0) 0 ram tags
+    → rests m ≡ true
+    → memoryFits flash ≡ true
+    → length ram′ ≡ length ram
+    → length tags′ ≡ length tags
+    → (judged (bookOmitting m o ram tags) flash (length ram′) (length tags′) ≡ Verdict.Accepted)
+    × (readBook (bookOmitting m o ram tags) flash ram′ tags′ ≡ record { machine = m; ram = ram; tags = tags })
 unfolding judged
+omitting-read m o ram tags flash ram′ tags′ ty lc lg v r ff er et =
+    let book = bookOmitting m o ram tags in
+    let fits = sizes (memoryFits 0) (memoryFits (length ram)) (tagsFit (length ram) (length tags)) (sizes-fit (m .caps) (m .pcc) (m .pending) (getD (m .general) 0 0) 0 ram tags v) (memoryFits flash) ff in
+    let accepted : judged book flash (length ram′) (length tags′) ≡ Verdict.Accepted = rw (er, et, fits) (book-accepted m o ram tags ty v) in
+    let read : readBook book flash ram′ tags′ ≡ record { machine = m; ram = ram; tags = tags } =
+    read-accepted book flash ram′ tags′ accepted ∙ rw (er, et) (book-entered m o ram tags ty lc lg v (length book) (omega arith) ∙ resting m ram tags r) in
+    (accepted, read)
+
+pub written-and-read : WrittenAndRead
 written-and-read m ram tags out n flash ram′ tags′ ty lc lg e ff er et =
     let f = taken m ram tags out n e in
-    let book = bookOf m ram tags in
-    let fits = sizes (memoryFits 0) (memoryFits (length ram)) (tagsFit (length ram) (length tags)) (sizes-fit (m .caps) (m .pcc) (m .pending) (getD (m .general) 0 0) 0 ram tags (f .0)) (memoryFits flash) ff in
-    let accepted : judged book flash (length ram′) (length tags′) ≡ Verdict.Accepted = rw (er, et, fits) (book-accepted m ram tags ty (f .0)) in
-    let read : readBook book flash ram′ tags′ ≡ record { machine = m; ram = ram; tags = tags } =
-    read-accepted book flash ram′ tags′ accepted ∙ rw (er, et) (book-entered m ram tags ty lc lg (f .0) (length book) (omega arith) ∙ resting m ram tags (f .1)) in
-    rw (f .2) (accepted, read)
+    rw (f .2, written-omits m ram tags) (omitting-read m (zeros m) ram tags flash ram′ tags′ ty lc lg (f .0) (f .1) ff er et)
