@@ -1,2 +1,4 @@
 pub mod Laws
 pub mod Registers
+pub mod Given
+pub mod Taken

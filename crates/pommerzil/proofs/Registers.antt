@@ -1,9 +1,9 @@
 -- Records of one length each, one after the other, and all registers of a machine. Assumes nothing.
-use Prim.Native.Nat.{ℕ, _+_, _*_, _≤_}
+use Prim.Native.Nat.{ℕ, _+_, _≤_}
 use mathlib.Core.Path.{_≡_, refl, sym, _∙_, ap}
-use mathlib.Core.List.{List, [], _∷_, _++_}
+use mathlib.Core.List.{List, [], _∷_}
 use native.Mathlib.Omega.{arith}
-use lib.ListN.{length, take, drop}
+use lib.ListN.{length}
 use Rattle.mem.specs.Number.{toBe}
 use Rattle.mem.specs.Store.{put}
 use Rattle.mem.proofs.Stores.{put-fits}

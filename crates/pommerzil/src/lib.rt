@@ -13,6 +13,7 @@ ghost use Prim.Native.Nat.{_≤_};
 ghost use lib.ListN.{length};
 ghost use Rattle.write.specs.Run.{Runs};
 ghost use Rattle.pommerzil.specs.Registers.{capRecords, generalRecords, registersOf};
+ghost use Rattle.pommerzil.specs.Claims.{HandedOutIsTaken};
 ghost use Rattle.pommerzil.specs.Exported.{over, numbersOf, runInto, readInto, writeFrom, codeOf, bytesOf};
 
 // The numbers of an answer: stop or refusal, cause code, register, place, steps.
@@ -174,3 +175,8 @@ pub extern "C" fn pommerzil_write(
     *written = bytes_of(answer);
     code_of(answer)
 }
+
+// What is handed out, is taken.
+pub fn claims()
+    ensures handed_out_is_taken { λ _. ⌜ HandedOutIsTaken ⌝ }
+{}
