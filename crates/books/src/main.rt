@@ -3,7 +3,7 @@
 // says. A book to read gives REFUSAL MACHINE RAM TAGS; a book to write gives REFUSAL LENGTH OUT and, where one was written,
 // what reading exactly its bytes gives. All but REFUSAL and LENGTH are checksums, as second/src/generate/answers.rs says.
 use enter::Started;
-use tables::print;
+use libc::STDOUT_FILENO;
 use write::Written;
 ghost use mathlib.Core.Path.{_≡_};
 ghost use lib.ListN.{length};
@@ -18,6 +18,12 @@ const READ: u8 = 2;
 
 // Where the book to read, or the machine to write, stands in a body.
 const FIRST: usize = 1;
+
+// A number in decimal, and a byte after it.
+fn print(n: u64, end: u8) {
+    io::print_decimal(STDOUT_FILENO, n);
+    io::write_all(STDOUT_FILENO, &[end]);
+}
 
 fn print_started(started: Started, ram: &[u8], tags: &[u8]) {
     let verdict = started.verdict;

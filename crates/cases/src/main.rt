@@ -1,8 +1,8 @@
 // Runs the machines of a table. Standard input is a file of the second program's with runs alone: of each case a length
 // of 4 bytes and its body, laid out as second/src/generate/format.rs says. A case's line is STOP CAUSE REGISTER PLACE
 // STEPS MACHINE RAM TAGS, the last three checksums, as second/src/generate/answers.rs says.
+use libc::STDOUT_FILENO;
 use state::Outcome;
-use tables::print;
 ghost use mathlib.Core.Path.{_≡_};
 ghost use lib.ListN.{length};
 
@@ -13,6 +13,12 @@ const SPACE: usize = 65_568;
 
 // Where the machine stands in a body: after the kind and the budget.
 const MACHINE: usize = 5;
+
+// A number in decimal, and a byte after it.
+fn print(n: u64, end: u8) {
+    io::print_decimal(STDOUT_FILENO, n);
+    io::write_all(STDOUT_FILENO, &[end]);
+}
 
 fn print_outcome(o: Outcome) {
     let m = o.machine;

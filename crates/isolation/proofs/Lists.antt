@@ -26,20 +26,21 @@ part-eq l l′ i n e h =
     let k′ : j < n = omega (arith, length-take n (drop i l)) in
     getD-take n (drop i l) j 0 k′ ∙ getD-drop i l j 0 ∙ h j k′ ∙ sym (getD-drop i l′ j 0) ∙ sym (getD-take n (drop i l′) j 0 k′))
 
--- the same store keeps two lists equal wherever they were
-set-same : (l l′ : List ℕ) (i j a : ℕ) → length l ≡ length l′ → getD l j 0 ≡ getD l′ j 0 → getD (set l i a) j 0 ≡ getD (set l′ i a) j 0
-set-same [] [] i j a e h = refl
-set-same [] (y ∷ ys) i j a e h = absurd (omega arith)
-set-same (x ∷ xs) [] i j a e h = absurd (omega arith)
-set-same (x ∷ xs) (y ∷ ys) zero zero a e h = refl
-set-same (x ∷ xs) (y ∷ ys) zero (suc j) a e h = h
-set-same (x ∷ xs) (y ∷ ys) (suc i) zero a e h = h
-set-same (x ∷ xs) (y ∷ ys) (suc i) (suc j) a e h = set-same xs ys i j a (omega arith) h
+-- the same store keeps whatever is said of an element equal in two lists wherever it was
+set-same : {A : Type 0} (f : ℕ → A) (l l′ : List ℕ) (i j a : ℕ) → length l ≡ length l′ → f (getD l j 0) ≡ f (getD l′ j 0)
+    → f (getD (set l i a) j 0) ≡ f (getD (set l′ i a) j 0)
+set-same f [] [] i j a e h = refl
+set-same f [] (y ∷ ys) i j a e h = absurd (omega arith)
+set-same f (x ∷ xs) [] i j a e h = absurd (omega arith)
+set-same f (x ∷ xs) (y ∷ ys) zero zero a e h = refl
+set-same f (x ∷ xs) (y ∷ ys) zero (suc j) a e h = h
+set-same f (x ∷ xs) (y ∷ ys) (suc i) zero a e h = h
+set-same f (x ∷ xs) (y ∷ ys) (suc i) (suc j) a e h = set-same f xs ys i j a (omega arith) h
 
 sets-same : (vs l l′ : List ℕ) (i j : ℕ) → length l ≡ length l′ → getD l j 0 ≡ getD l′ j 0 → getD (sets l i vs) j 0 ≡ getD (sets l′ i vs) j 0
 sets-same [] l l′ i j e h = h
 sets-same (a ∷ vs) l l′ i j e h =
-    sets-same vs (set l i a) (set l′ i a) (suc i) j (length-set l i a ∙ e ∙ sym (length-set l′ i a)) (set-same l l′ i j a e h)
+    sets-same vs (set l i a) (set l′ i a) (suc i) j (length-set l i a ∙ e ∙ sym (length-set l′ i a)) (set-same (λ x. x) l l′ i j a e h)
 
 pub put-same : (l l′ : List ℕ) (i j : ℕ) (vs : List ℕ) → length l ≡ length l′ → getD l j 0 ≡ getD l′ j 0 → getD (put l i vs) j 0 ≡ getD (put l′ i vs) j 0
 unfolding put
@@ -52,13 +53,7 @@ put-same l l′ i j vs e h = rw (← e) (go (leb (i + length vs) (length l)))
 -- and the same tag
 pub tag-same : (l l′ : List ℕ) (i j : ℕ) (t : Bool) → length l ≡ length l′ → tagOf l j ≡ tagOf l′ j → tagOf (withTag l i t) j ≡ tagOf (withTag l′ i t) j
 unfolding tagOf withTag
-tag-same [] [] i j t e h = refl
-tag-same [] (y ∷ ys) i j t e h = absurd (omega arith)
-tag-same (x ∷ xs) [] i j t e h = absurd (omega arith)
-tag-same (x ∷ xs) (y ∷ ys) zero zero t e h = refl
-tag-same (x ∷ xs) (y ∷ ys) zero (suc j) t e h = h
-tag-same (x ∷ xs) (y ∷ ys) (suc i) zero t e h = h
-tag-same (x ∷ xs) (y ∷ ys) (suc i) (suc j) t e h = tag-same xs ys i j t (omega arith) h
+tag-same l l′ i j t e h = set-same (λ x. eqb x 1) l l′ i j (bit t) e h
 
 -- a line that is tagged after its tag was written was given the tag
 pub tag-given : (l : List ℕ) (i : ℕ) (t : Bool) → tagOf (withTag l i t) i ≡ true → t ≡ true

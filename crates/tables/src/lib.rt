@@ -2,7 +2,6 @@
 // second/src/generate/answers.rs says. It is the programs' input and output and no part of the model.
 use cap::Cap;
 use libc::STDIN_FILENO;
-use libc::STDOUT_FILENO;
 use mem::Address;
 use mem::Offset;
 use perform::Pending;
@@ -311,12 +310,6 @@ pub fn sum_bytes(bytes: &[u8]) -> u64
         sum = sum_1(sum, wide(bytes[i]) as u64);
     }
     sum
-}
-
-// Prints a number in decimal, and a byte after it: no contract can say what is written.
-pub fn print(n: u64, end: u8) {
-    io::print_decimal(STDOUT_FILENO, n);
-    io::write_all(STDOUT_FILENO, &[end]);
 }
 
 // Reads a case into this space: how many bytes its body has, 0 where there is none. No contract can say which bytes are read.

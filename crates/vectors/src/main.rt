@@ -3,7 +3,7 @@
 use bench::Answer;
 use bench::BENCH_RAM;
 use bench::BENCH_TAGS;
-use tables::print;
+use libc::STDOUT_FILENO;
 ghost use mathlib.Core.Path.{_≡_};
 ghost use lib.ListN.{length};
 
@@ -14,6 +14,12 @@ const SPACE: usize = 131_072;
 
 // Where the book stands in a body: after the kind.
 const BOOK: usize = 1;
+
+// A number in decimal, and a byte after it.
+fn print(n: u64, end: u8) {
+    io::print_decimal(STDOUT_FILENO, n);
+    io::write_all(STDOUT_FILENO, &[end]);
+}
 
 fn print_line(a: Answer) {
     print(a.stop as u64, b' ');
