@@ -1,22 +1,17 @@
-// Instructions that look at capability registers and write a general register, the memory or an offset, carried out on the values
-// that their words name.
+// Instructions that look at capability registers and write a register or the memory, carried out on the values that their words
+// name.
+use access::Access;
 use cap::Cap;
 use checks::Named;
+use deriving::Capable;
 use isa::Instr;
+use line::LoadedCap;
 use mem::Loaded;
-use mem::Offset;
+use mem::Size;
 use mem::Stored;
 ghost use mathlib.Core.Path.{_≡_};
 ghost use mathlib.Core.Bool.{Bool};
-ghost use Rattle.capable.specs.Capable.{putsLoaded, putsStored, setsWhere, movesWhere, movable, Capably};
-
-// What such an instruction writes: a general register, or a capability register as the one at 15..11 with another offset.
-// Other for any other, and where it would stop: then nothing was done.
-pub enum Capable {
-    Sets(u8, u64),
-    Moves(u8, Offset),
-    Other,
-}
+ghost use Rattle.capable.specs.Capable.{putsLoaded, putsStored, putsLine, setsWhere, heldWhere, lineAt, lineStored, lineRam, lineTags, Capably};
 
 fn puts_loaded(rd: u8, loaded: Loaded) -> Capable
     ensures { λ r. ⌜ r ≡ putsLoaded rd loaded ⌝ }
@@ -37,6 +32,15 @@ fn puts_stored(stored: Stored) -> Capable
     }
 }
 
+fn puts_line(cd: u8, loaded: LoadedCap) -> Capable
+    ensures { λ r. ⌜ r ≡ putsLine cd loaded ⌝ }
+{
+    match loaded {
+        LoadedCap::Value(c) => Capable::Puts(cd, c),
+        LoadedCap::Nowhere => Capable::Other,
+    }
+}
+
 fn sets(passes: bool, rd: u8, value: u64) -> Capable
     ensures { λ r. ⌜ r ≡ setsWhere passes rd value ⌝ }
 {
@@ -46,25 +50,40 @@ fn sets(passes: bool, rd: u8, value: u64) -> Capable
     Capable::Other
 }
 
-fn moves(passes: bool, cd: u8, to: Offset) -> Capable
-    ensures { λ r. ⌜ r ≡ movesWhere passes cd to ⌝ }
+// An access that another check may hold back.
+fn held(passes: bool, lies: Access) -> Access
+    ensures { λ r. ⌜ r ≡ heldWhere passes lies ⌝ }
 {
     if passes {
-        return Capable::Moves(cd, to);
+        return lies;
     }
-    Capable::Other
+    Access::Length
 }
 
-// Every check of CSetOffset and of CIncOffset passes.
-fn is_movable(perms: u32, cd: u8, cb: Named) -> bool
-    ensures { λ r. ⌜ r ≡ movable perms cd cb ⌝ }
+fn load_line<'a>(lies: Access, flash: &'a [u8], ram: &'a [u8], tags: &[u8]) -> LoadedCap
+    ensures { λ r. ⌜ r ≡ lineAt (now (flash .entry)) (now (ram .entry)) (now (tags .entry)) lies ⌝ }
 {
-    let fixed = checks::both(cb.cap.tag, cb.cap.sealed);
-    let free = checks::both(cap::register_open(perms, cb.number), !fixed);
-    checks::both(cap::register_open(perms, cd), free)
+    match lies {
+        Access::At(at) => line::load(flash, ram, tags, at),
+        Access::Length => LoadedCap::Nowhere,
+        Access::Misaligned => LoadedCap::Nowhere,
+    }
 }
 
-// What the instruction writes, on the registers at 25..21, 20..16, 15..11 and 10..6.
+fn store_line(lies: Access, c: Cap, flash: &[u8], ram: &mut [u8], tags: &mut [u8]) -> Stored
+    ensures { λ r. ⌜ r ≡ lineStored (now (flash .entry)) (now (ram .entry)) lies ⌝ }
+    ensures { λ _. ⌜ now (ram .exit) ≡ lineRam (now (flash .entry)) (now (ram .entry)) c lies ⌝ }
+    ensures { λ _. ⌜ now (tags .exit) ≡ lineTags (now (flash .entry)) (now (ram .entry)) (now (tags .entry)) c lies ⌝ }
+{
+    match lies {
+        Access::At(at) => line::store(flash.len(), ram, tags, at, c),
+        Access::Length => Stored::Nowhere,
+        Access::Misaligned => Stored::Nowhere,
+    }
+}
+
+// What the instruction writes, on the registers at 25..21, 20..16, 15..11 and 10..6. A capability that is neither global nor
+// stored with the permission for local ones is left to the whole step.
 pub fn capably(
     i: Instr,
     n25: u8,
@@ -73,32 +92,43 @@ pub fn capably(
     g15: u64,
     g10: u64,
     pcc: Cap,
+    k25: Cap,
     c20: Named,
     c15: Named,
     flash: &[u8],
     ram: &mut [u8],
     tags: &mut [u8],
 ) -> Capable
-    ensures { λ r. ⌜ Capably i n25 n20 g25 g15 g10 pcc c20 c15 (now (flash .entry)) (now (ram .entry)) (now (tags .entry)) (now (ram .exit)) (now (tags .exit)) r ⌝ }
+    ensures { λ r. ⌜ Capably i n25 n20 g25 g15 g10 pcc k25 c20 c15 (now (flash .entry)) (now (ram .entry)) (now (tags .entry)) (now (ram .exit)) (now (tags .exit)) r ⌝ }
 {
+    let by = c20.cap;
+    let opens = cap::register_open(pcc.perms, c20.number);
     match i {
         Instr::Load(size, signed, x) => {
-            let at = plain::reached(cap::LOAD, size, x, pcc, c20, g15);
+            let at = plain::reached(cap::LOAD, size, x, opens, by, g15);
             puts_loaded(n25, plain::loaded(at, size, signed, flash, ram))
         }
         Instr::Store(size, x) => {
-            let at = plain::reached(cap::STORE, size, x, pcc, c20, g15);
+            let at = plain::reached(cap::STORE, size, x, opens, by, g15);
             puts_stored(plain::stored(at, size, g25, flash, ram, tags))
+        }
+        Instr::LoadCapability(x) => {
+            let at = plain::reached(cap::LOAD_CAPABILITY, Size::Line, x, opens, by, g15);
+            let at = held(cap::register_open(pcc.perms, n25), at);
+            puts_line(n25, load_line(at, flash, ram, tags))
+        }
+        Instr::StoreCapability(x) => {
+            let local = cap::permits(by.perms, cap::STORE_LOCAL);
+            let may = checks::either(local, cap::permits(k25.perms, cap::GLOBAL));
+            let passes = checks::both(cap::register_open(pcc.perms, n25), may);
+            let at = plain::reached(cap::STORE_CAPABILITY, Size::Line, x, opens, by, g15);
+            let at = held(passes, at);
+            puts_stored(store_line(at, k25, flash, ram, tags))
         }
         Instr::Get(field) => {
             let passes = cap::register_open(pcc.perms, c15.number);
             sets(passes, n20, inspect::field_of(field, c15.cap))
         }
-        Instr::SetOffset => moves(is_movable(pcc.perms, n20, c15), n20, Offset(g10)),
-        Instr::IncOffset => {
-            let to = mem::moved(c15.cap.offset, g10);
-            moves(is_movable(pcc.perms, n20, c15), n20, to)
-        }
-        _ => Capable::Other,
+        _ => deriving::derived(i, n20, pcc, c15, g10),
     }
 }

@@ -23,7 +23,7 @@ use Rattle.perform.specs.Fetch.{fetchOf, wordOf, isPending}
 use Rattle.plain.specs.declared.Plain.{Plain}
 use Rattle.plain.specs.Plain.{aheadOf, Does, Untouched, Sees, Means, Plainly}
 use Rattle.plain.proofs.Laws.{ahead-goes}
-use Rattle.capable.specs.declared.Capable.{Capable}
+use Rattle.deriving.specs.declared.Capable.{Capable}
 use Rattle.capable.specs.Capable.{Shows, Amounts, Capably}
 use Rattle.state.specs.State.{operandsOf, kept, nextPcc, commit}
 use Rattle.state.specs.Steps.{turnAt, ramAt, tagsAt, runFrom}
@@ -46,35 +46,32 @@ pub record Adds (flash g : List ℕ) (caps : List Cap) (pcc : Cap) (pending : Pe
   pub adds : (cause : ℕ) → Amounts (here-operands flash ram g caps pcc pending cause) (here-planned flash ram g caps pcc pending cause) flash ram tags ram′ tags′ r
 
 sees : (g : List ℕ) (caps : List Cap) (pcc : Cap) (pending : Pending) (w cause : ℕ)
-    → Sees (operandsOf (holding g caps pcc pending cause) w) (field20 w) (field15 w) (getD g (field25 w) 0) (getD g (field20 w) 0) pcc (getD caps 0 null)
+    → Sees (operandsOf (holding g caps pcc pending cause) w) (field20 w) (field15 w) (getD g (field25 w) 0) (getD g (field20 w) 0) (getD caps 0 null)
 unfolding operandsOf
-sees g caps pcc pending w cause = record { is-n20 = refl; is-n15 = refl; is-g25 = refl; is-g20 = refl; is-pcc = refl; is-c0 = refl }
+sees g caps pcc pending w cause = record { is-n20 = refl; is-n15 = refl; is-g25 = refl; is-g20 = refl; is-c0 = refl }
 
 shows : (g : List ℕ) (caps : List Cap) (pcc : Cap) (pending : Pending) (w cause : ℕ)
-    → Shows (operandsOf (holding g caps pcc pending cause) w) (field25 w) (field20 w) (getD g (field25 w) 0) (getD g (field15 w) 0) (getD g (field10 w) 0) pcc
+    → Shows (operandsOf (holding g caps pcc pending cause) w) (field25 w) (field20 w) (getD g (field25 w) 0) (getD g (field15 w) 0) (getD g (field10 w) 0) pcc (getD caps (field25 w) null)
     (record { cap = getD caps (field20 w) null; number = field20 w }) (record { cap = getD caps (field15 w) null; number = field15 w })
 unfolding operandsOf
-shows g caps pcc pending w cause = record { is-n25 = refl; is-n20 = refl; is-g25 = refl; is-g15 = refl; is-g10 = refl; is-pcc = refl; is-c20 = refl; is-c15 = refl }
+shows g caps pcc pending w cause = record { is-n25 = refl; is-n20 = refl; is-g25 = refl; is-g15 = refl; is-g10 = refl; is-pcc = refl; is-c25 = refl; is-c20 = refl; is-c15 = refl }
 
 -- what the code hands over is what the word names
 module _ (flash g : List ℕ) (caps : List Cap) (pcc : Cap) (pending : Pending) (ram tags ram′ tags′ : List ℕ) (here : Cap) (fetched : Fetched) (w : ℕ) (i : Instr) (slot : Bool) (i25 i20 i15 : ℕ)
     (fh : here ≡ pcc) (f : fetched ≡ fetchOf flash ram here) (fw : w ≡ wordOf fetched) (fs : slot ≡ isPending pending) (fi : i ≡ aheadOf slot fetched) (f25 : i25 ≡ field25 w) (f20 : i20 ≡ field20 w) (f15 : i15 ≡ field15 w) where
-  pub told : (r : Plain) → Plainly i i20 i15 (getD g i25 0) (getD g i20 0) here (getD caps 0 null) flash ram tags ram′ tags′ r → Tells flash g caps pcc pending ram tags ram′ tags′ r
+  pub told : (r : Plain) → Plainly i i20 i15 (getD g i25 0) (getD g i20 0) (getD caps 0 null) flash ram tags ram′ tags′ r → Tells flash g caps pcc pending ram tags ram′ tags′ r
   told r did = record {
     tells = λ cause.
         (rw (fi, fs, f25, f20, f15, fw, f, fh) at did) (here-operands flash ram g caps pcc pending cause) (sees g caps pcc pending (wordOf (fetchOf flash ram pcc)) cause);
   }
 
   pub added : (ram₁ tags₁ : List ℕ) (i10 : ℕ) (r : Capable) → Untouched ram tags ram₁ tags₁ → i10 ≡ field10 w
-      → Capably i i25 i20 (getD g i25 0) (getD g i15 0) (getD g i10 0) here (record { cap = getD caps i20 null; number = i20 }) (record { cap = getD caps i15 null; number = i15 }) flash ram₁ tags₁ ram′ tags′ r
+      → Capably i i25 i20 (getD g i25 0) (getD g i15 0) (getD g i10 0) here (getD caps i25 null) (record { cap = getD caps i20 null; number = i20 }) (record { cap = getD caps i15 null; number = i15 }) flash ram₁ tags₁ ram′ tags′ r
       → Adds flash g caps pcc pending ram tags ram′ tags′ r
   added ram₁ tags₁ i10 r u f10 did = record {
     adds = λ cause.
         (rw (u .0, u .1, fi, fs, f10, f25, f20, f15, fw, f, fh) at did) (here-operands flash ram g caps pcc pending cause) (shows g caps pcc pending (wordOf (fetchOf flash ram pcc)) cause);
   }
-
-  pub fifteen : i15 ≡ field15 (wordOf (fetchOf flash ram pcc))
-  fifteen = rw (f15, fw, f, fh)
 
 -- C0 written as it was
 same-first : (caps : List Cap) → set caps 0 (getD caps 0 null) ≡ caps
@@ -115,11 +112,10 @@ module _ (flash g₀ : List ℕ) (caps₀ : List Cap) (pcc₀ : Cap) (pending₀
       → Glides flash g₀ caps₀ pcc₀ pending₀ ram₀ tags₀ (n + 1) (set g (rd % 32) v′) caps pcc′ Pending.Quiet ram′ tags′
   also-sets r rd v v′ pcc′ t q qv qp = set-general rd v v′ pcc′ qv qp (λ cause. rw q at (t .adds cause))
 
-  pub moves : (r : Capable) (cd i15 : ℕ) (to : Offset) (c pcc′ : Cap) → Adds flash g caps pcc pending ram tags ram′ tags′ r → r ≡ Capable.Moves cd to → i15 ≡ field15 (wordOf (fetchOf flash ram pcc))
-      → c ≡ setOffset (getD caps i15 null) to → pcc′ ≡ nextPcc pcc pending
+  pub puts : (r : Capable) (cd : ℕ) (c pcc′ : Cap) → Adds flash g caps pcc pending ram tags ram′ tags′ r → r ≡ Capable.Puts cd c → pcc′ ≡ nextPcc pcc pending
       → Glides flash g₀ caps₀ pcc₀ pending₀ ram₀ tags₀ (n + 1) (set g 0 0) (set caps (cd % 32) c) pcc′ Pending.Quiet ram′ tags′
   unfolding commit operandsOf
-  moves r cd i15 to c pcc′ t q f15 qc qp = record { leads = λ cause k s. then-goes cause k s _ (rw q at (t .adds cause)) ∙ rw (qc, f15, qp) }
+  puts r cd c pcc′ t q qp = record { leads = λ cause k s. then-goes cause k s _ (rw q at (t .adds cause)) ∙ rw qp }
 
   pub jumps : (r : Plain) (words : ℕ) (pcc′ : Cap) (jump : Pending) → Tells flash g caps pcc pending ram tags ram′ tags′ r → r ≡ Plain.Jumps words → pcc′ ≡ nextPcc pcc pending → Pending.Jump (branchTo pcc words) ≡ jump
       → Glides flash g₀ caps₀ pcc₀ pending₀ ram₀ tags₀ (n + 1) (set g 0 0) caps pcc′ jump ram′ tags′

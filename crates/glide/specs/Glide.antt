@@ -1,7 +1,7 @@
 -- Steps made one after the other by a shorter way, held to the run's own definition.
 use Prim.Native.Nat.{ℕ, _+_}
 use mathlib.Core.Path.{_≡_}
-use mathlib.Core.Bool.{Bool, cond, not, _&&_, _||_}
+use mathlib.Core.Bool.{Bool, true, cond, _&&_, _||_}
 use mathlib.Core.List.{List}
 use lib.Dec.{eqb, leb}
 use Rattle.mem.specs.declared.Offset.{Offset}
@@ -19,11 +19,9 @@ nextAt slot at target = cond slot target (movedBy at 4)
 abbrev pub waitingAt : Bool → Cap → Offset → Pending
 waitingAt slot pcc target = cond slot (Pending.Jump (setOffset pcc target)) Pending.Quiet
 
--- all but CLC, CSC and the capability instructions other than field reads, CSetOffset and CIncOffset
+-- all but the capability instructions other than field reads and those that derive a capability from one alone
 unfoldable pub lightWord : ℕ → Bool
-lightWord w =
-    cond (eqb (major w) 18) (leb (field25 w) 6 || (leb 14 (field25 w) && leb (field25 w) 15))
-    (not (eqb (major w) 54) && not (eqb (major w) 62))
+lightWord w = cond (eqb (major w) 18) (leb (field25 w) 6 || (leb 10 (field25 w) && leb (field25 w) 15)) true
 
 abbrev pub holding : List ℕ → List Cap → Cap → Pending → ℕ → Machine
 holding g caps pcc pending cause = record { general = g; caps = caps; pcc = pcc; pending = pending; cause = cause }

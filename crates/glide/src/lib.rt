@@ -1,8 +1,8 @@
 // Steps made one after the other by a shorter way, as far as it goes: the whole way makes the others.
 use cap::Cap;
 use cap::narrow;
-use capable::Capable;
 use checks::Named;
+use deriving::Capable;
 use mem::Offset;
 use perform::Pending;
 use plain::Plain;
@@ -81,7 +81,7 @@ fn slide(
         let i20 = n20 as usize;
         let n15 = isa::field_15(w);
         let c0 = cs[0];
-        let did = plain::plainly(i, n20, n15, g[i25], g[i20], here, c0, flash, ram, tags);
+        let did = plain::plainly(i, n20, n15, g[i25], g[i20], c0, flash, ram, tags);
         match did {
             Plain::Sets(rd, value) => {
                 let rd = (rd % 32) as usize;
@@ -101,6 +101,7 @@ fn slide(
             Plain::Other => {
                 let i15 = n15 as usize;
                 let i10 = isa::field_10(w) as usize;
+                let k25 = cs[i25];
                 let k20 = cs[i20];
                 let k15 = cs[i15];
                 let c20 = Named {
@@ -119,6 +120,7 @@ fn slide(
                     g[i15],
                     g[i10],
                     here,
+                    k25,
                     c20,
                     c15,
                     flash,
@@ -136,10 +138,10 @@ fn slide(
                         slot = false;
                         n = n + 1;
                     }
-                    Capable::Moves(cd, to) => {
+                    Capable::Puts(cd, c) => {
                         g[0] = 0;
                         let cd = (cd % 32) as usize;
-                        cs[cd] = narrow::set_offset(k15, to);
+                        cs[cd] = c;
                         at = next_at(slot, at, target);
                         slot = false;
                         n = n + 1;
@@ -183,7 +185,7 @@ pub fn is_light(word: u32) -> bool
     let major = word / 0x400_0000;
     let number = isa::field_25(word);
     if major == 18 {
-        return checks::either(number <= 6, checks::both(14 <= number, number <= 15));
+        return checks::either(number <= 6, checks::both(10 <= number, number <= 15));
     }
-    checks::both(major != 54, major != 62)
+    true
 }

@@ -11,16 +11,14 @@ use Rattle.mem.specs.Number.{bytesIn, toBe}
 use Rattle.mem.specs.Place.{loadOf}
 use Rattle.mem.specs.Store.{answerAt, ramAfter, tagsAfter}
 use Rattle.cap.specs.declared.Cap.{Cap}
+use Rattle.cap.specs.Cap.{registerOpen}
 use Rattle.access.specs.declared.Access.{Access}
 use Rattle.access.specs.Access.{accessOf}
 use Rattle.isa.specs.declared.Instr.{Instr}
 use Rattle.isa.specs.Decode.{decodeWord, isJumpWord}
 use Rattle.checks.specs.declared.Named.{Named}
-use Rattle.checks.specs.declared.Fault.{Fault}
-use Rattle.checks.specs.declared.Effect.{Effect}
 use Rattle.checks.specs.declared.Planned.{Planned}
-use Rattle.checks.specs.Checks.{settle, opened, tagged, unsealed, granted}
-use Rattle.transfer.specs.Transfer.{lies}
+use Rattle.checks.specs.Checks.{Checked, settle, opened, tagged, unsealed, granted}
 use Rattle.jump.specs.Jump.{branchTo}
 use Rattle.plan.specs.declared.Operands.{Operands}
 use Rattle.plan.specs.Plan.{planOf}
@@ -40,10 +38,19 @@ aheadOf slot (Fetched.Word w) = cond (slot && isJumpWord w) Instr.Reserved (deco
 abbrev pub byC0 : Cap → Named
 byC0 c0 = record { number = 0; cap = c0 }
 
--- where an access through a capability lies, only if every check of it passes
+-- where an access lies, if the answer says so
+abbrev pub Lands : Access → Access → Type 0
+Lands lies r = (a : Address) → r ≡ Access.At a → lies ≡ Access.At a
+
+-- then every check before it passes too
 pub record Reaches (permission : ℕ) (pcc : Cap) (cb : Named) (rt immediate size : ℕ) (r : Access) : Type 0 where
-  pub passes : (misaligned : Fault) (effect : Address → Effect) (a : Address) → r ≡ Access.At a
-      → settle (opened pcc (cb .number) (tagged cb (unsealed cb (granted permission cb (lies (accessOf (cb .cap) rt immediate size) (cb .number) misaligned effect))))) ≡ Planned.Does (effect a)
+  pub lands : Lands (accessOf (cb .cap) rt immediate size) r
+  pub passes : (a : Address) → r ≡ Access.At a → (rest : Checked) → settle (opened pcc (cb .number) (tagged cb (unsealed cb (granted permission cb rest)))) ≡ settle rest
+
+-- through a register that PCC may name, or not
+abbrev pub Reached : ℕ → Bool → Cap → ℕ → ℕ → ℕ → Access → Type 0
+Reached permission opens c rt immediate size r = (pcc : Cap) (number : ℕ) → opens ≡ registerOpen (pcc .perms) number
+    → Reaches permission pcc (record { cap = c; number = number }) rt immediate size r
 
 abbrev pub extendedIn : Bool → Size → Loaded → Loaded
 extendedIn signed size (Loaded.Value v) = Loaded.Value (extended signed size v)
@@ -82,12 +89,11 @@ abbrev pub branchesBy : Bool → ℕ → Plain
 branchesBy taken words = cond taken (Plain.Jumps words) (Plain.Sets 0 0)
 
 -- operands with these parts, whatever their others
-pub record Sees (o : Operands) (n20 n15 g25 g20 : ℕ) (pcc c0 : Cap) : Type 0 where
+pub record Sees (o : Operands) (n20 n15 g25 g20 : ℕ) (c0 : Cap) : Type 0 where
   pub is-n20 : o .n20 ≡ n20
   pub is-n15 : o .n15 ≡ n15
   pub is-g25 : o .g25 ≡ g25
   pub is-g20 : o .g20 ≡ g20
-  pub is-pcc : o .pcc ≡ pcc
   pub is-c0 : o .c0 ≡ byC0 c0
 
 -- the planned step goes on with this change, and leaves this RAM and these tags
@@ -106,6 +112,6 @@ Means o planned flash ram tags ram′ tags′ (Plain.Jumps words) =
     Does o planned flash ram tags ram′ tags′ (toCapability (o .cause) 0 (o .c0 .cap) (Pending.Jump (branchTo (o .pcc) words)))
 Means o planned flash ram tags ram′ tags′ Plain.Other = Untouched ram tags ram′ tags′
 
-abbrev pub Plainly : Instr → ℕ → ℕ → ℕ → ℕ → Cap → Cap → List ℕ → List ℕ → List ℕ → List ℕ → List ℕ → Plain → Type 0
-Plainly i n20 n15 g25 g20 pcc c0 flash ram tags ram′ tags′ r =
-    (o : Operands) → Sees o n20 n15 g25 g20 pcc c0 → Means o (settle (planOf o i)) flash ram tags ram′ tags′ r
+abbrev pub Plainly : Instr → ℕ → ℕ → ℕ → ℕ → Cap → List ℕ → List ℕ → List ℕ → List ℕ → List ℕ → Plain → Type 0
+Plainly i n20 n15 g25 g20 c0 flash ram tags ram′ tags′ r =
+    (o : Operands) → Sees o n20 n15 g25 g20 c0 → Means o (settle (planOf o i)) flash ram tags ram′ tags′ r

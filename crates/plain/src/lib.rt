@@ -1,9 +1,8 @@
 // Instructions that look at no capability register but C0, carried out on the values that their words name.
 use access::Access;
 use cap::Cap;
-use checks::Check;
-use checks::Named;
 use isa::Instr;
+use mem::Address;
 use mem::Loaded;
 use mem::Size;
 use mem::Stored;
@@ -11,7 +10,8 @@ use perform::Fetched;
 ghost use mathlib.Core.Path.{_≡_};
 ghost use mathlib.Core.Bool.{Bool};
 ghost use Rattle.mem.specs.Number.{bytesIn};
-ghost use Rattle.plain.specs.Plain.{aheadOf, Reaches, extendedIn, loadedAt, storedAt, storesRam, storesTags, setsLoaded, setsStored, branchesBy, Plainly};
+ghost use Rattle.access.specs.Access.{accessOf};
+ghost use Rattle.plain.specs.Plain.{aheadOf, Lands, Reached, extendedIn, loadedAt, storedAt, storesRam, storesTags, setsLoaded, setsStored, branchesBy, Plainly};
 
 // What such an instruction writes; Other for any other, and where it would stop: then nothing was done.
 pub enum Plain {
@@ -35,15 +35,40 @@ pub fn ahead(fetched: Fetched, slot: bool) -> Instr
     }
 }
 
-// Where an access through a capability lies, if every check of it passes.
-pub fn reached(permission: u32, size: Size, immediate: u64, pcc: Cap, cb: Named, rt: u64) -> Access
-    ensures { λ r. ⌜ Reaches permission pcc cb rt immediate (bytesIn size) r ⌝ }
+// Below it four numbers sum without a carry out of 64 bits.
+const NEAR: u64 = 0x4000_0000_0000_0000;
+
+// Where an access lies, told only where nothing in it is large; then the test needs no cases.
+fn near(c: Cap, rt: u64, immediate: u64, size: Size) -> Access
+    ensures { λ r. ⌜ Lands (accessOf c rt immediate (bytesIn size)) r ⌝ }
 {
-    let k = transfer::through(Check::Passed, pcc, cb, permission);
-    match k {
-        Check::Passed => access::test(cb.cap, rt, immediate, size),
-        Check::Failed(_) => Access::Length,
+    let base = c.base.0;
+    let offset = c.offset.0;
+    let length = c.length;
+    let o = std::num::wrapping_add_u64(std::num::wrapping_add_u64(offset, rt), immediate);
+    let from = checks::both(base < NEAR, offset < NEAR);
+    let by = checks::both(rt < NEAR, o < NEAR);
+    if checks::both(from, by) {
+        if o + mem::size_bytes(size) as u64 <= length {
+            let a = Address(base + o);
+            if access::is_aligned(a, size) {
+                return Access::At(a);
+            }
+        }
     }
+    Access::Length
+}
+
+// The same, only if every check before it passes; `opens` where PCC may name the register.
+pub fn reached(permission: u32, size: Size, immediate: u64, opens: bool, c: Cap, rt: u64) -> Access
+    ensures { λ r. ⌜ Reached permission opens c rt immediate (bytesIn size) r ⌝ }
+{
+    let free = checks::both(c.tag, !c.sealed);
+    let granted = cap::permits(c.perms, permission);
+    if checks::both(opens, checks::both(free, granted)) {
+        return near(c, rt, immediate, size);
+    }
+    Access::Length
 }
 
 fn extended(signed: bool, size: Size, loaded: Loaded) -> Loaded
@@ -120,13 +145,12 @@ pub fn plainly(
     n15: u8,
     g25: u64,
     g20: u64,
-    pcc: Cap,
     c0: Cap,
     flash: &[u8],
     ram: &mut [u8],
     tags: &mut [u8],
 ) -> Plain
-    ensures { λ r. ⌜ Plainly i n20 n15 g25 g20 pcc c0 (now (flash .entry)) (now (ram .entry)) (now (tags .entry)) (now (ram .exit)) (now (tags .exit)) r ⌝ }
+    ensures { λ r. ⌜ Plainly i n20 n15 g25 g20 c0 (now (flash .entry)) (now (ram .entry)) (now (tags .entry)) (now (ram .exit)) (now (tags .exit)) r ⌝ }
 {
     match i {
         Instr::Nop => Plain::Sets(0, 0),
@@ -135,13 +159,11 @@ pub fn plainly(
         Instr::Lui(x) => Plain::Sets(n20, x),
         Instr::Branch(equal, x) => branches(jump::is_wanted(equal, g25 == g20), x),
         Instr::LoadByC0(size, x) => {
-            let cb = Named { cap: c0, number: 0 };
-            let at = reached(cap::LOAD, size, x, pcc, cb, g25);
+            let at = reached(cap::LOAD, size, x, true, c0, g25);
             sets_loaded(n20, loaded(at, size, false, flash, ram))
         }
         Instr::StoreByC0(size, x) => {
-            let cb = Named { cap: c0, number: 0 };
-            let at = reached(cap::STORE, size, x, pcc, cb, g25);
+            let at = reached(cap::STORE, size, x, true, c0, g25);
             sets_stored(stored(at, size, g20, flash, ram, tags))
         }
         _ => Plain::Other,

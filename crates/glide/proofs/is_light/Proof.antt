@@ -10,7 +10,7 @@ returns c = rw (eq-eqb _ _ (c .before .before .if1 .taken), ← c .before .befor
 
 returns-2 : tie.Need-returns-2
 unfolding lightWord
-returns-2 c = rw (ne-eqb _ _ (c .before .if1 .left)) (c .both2 .ensures)
+returns-2 c = rw (ne-eqb _ _ (c .if1 .left))
 
 pub is-light-spec : {M : Type 1} → statement M
-is-light-spec = tie.close (tie.spec asks asks asks returns asks returns-2)
+is-light-spec = tie.close (tie.spec asks asks asks returns returns-2)

@@ -1,5 +1,6 @@
 use Rattle.mem.proofs.Calls.{asks}
 use mathlib.Core.Path.{refl}
+use Rattle.cap.specs.Cap.{registerOpen}
 use Rattle.checks.specs.Checks.{settle}
 use Rattle.plan.specs.Plan.{planOf}
 use Rattle.perform.specs.Perform.{turnOf, ramOf, tagsOf}
@@ -26,18 +27,18 @@ returns-4 c = rw (c .before .i3 .given .1) (λ o s. rw (s .is-n20) (refl, (refl,
 
 returns-5 : tie.Need-returns-5
 unfolding planOf
-returns-5 c = rw (c .before .before .before .i4 .given .1, c .branches .ensures) (λ o s. branch-means o _ _ _ _ _ _ _ _ _ _ s _ _ (c .before .is-wanted .ensures))
+returns-5 c = rw (c .before .before .before .i4 .given .1, c .branches .ensures) (λ o s. branch-means o _ _ _ _ _ _ _ _ _ s _ _ (c .before .is-wanted .ensures))
 
 returns-6 : tie.Need-returns-6
-unfolding planOf
+unfolding planOf registerOpen
 returns-6 c = rw (c .before .before .before .before .before .i5 .given .1, c .sets-loaded .ensures, c .before .loaded .ensures)
-    (λ o s. load-means o _ _ _ _ _ _ _ _ _ _ _ (rw (s .is-pcc, s .is-n20, s .is-c0, s .is-g25)) (c .before .before .before .reached .ensures))
+    (λ o s. load-means o _ _ _ _ _ _ _ _ _ _ _ (rw (s .is-n20, s .is-c0, s .is-g25)) (c .before .before .before .reached .ensures (o .pcc) 0 refl))
 
 returns-7 : tie.Need-returns-7
-unfolding planOf
+unfolding planOf registerOpen
 returns-7 c = let k = c .before .before .before .before .before in
     rw (k .before .before .before .before .before .i6 .given .1, c .sets-stored .ensures, k .stored .ensures .0, k .stored .ensures .1 .0, k .stored .ensures .1 .1)
-    (λ o s. store-means o _ _ _ _ _ _ _ _ _ _ _ (rw (s .is-pcc, s .is-g20, s .is-c0, s .is-g25)) (k .before .before .before .reached2 .ensures))
+    (λ o s. store-means o _ _ _ _ _ _ _ _ _ _ _ (rw (s .is-g20, s .is-c0, s .is-g25)) (k .before .before .before .reached2 .ensures (o .pcc) 0 refl))
 
 pub plainly-spec : {M : Type 1} → statement M
 plainly-spec =

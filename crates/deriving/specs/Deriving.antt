@@ -1,0 +1,26 @@
+-- Instructions that derive a capability register: where they go on, what is planned of them.
+use Prim.Native.Nat.{ℕ}
+use mathlib.Core.Path.{_≡_}
+use mathlib.Core.Bool.{Bool, cond}
+use Rattle.cap.specs.declared.Cap.{Cap}
+use Rattle.isa.specs.declared.Instr.{Instr}
+use Rattle.checks.specs.declared.Named.{Named}
+use Rattle.checks.specs.declared.Effect.{Effect}
+use Rattle.checks.specs.declared.Planned.{Planned}
+use Rattle.checks.specs.Checks.{settle}
+use Rattle.plan.specs.declared.Operands.{Operands}
+use Rattle.plan.specs.Plan.{planOf}
+use Rattle.deriving.specs.declared.Capable.{Capable}
+
+abbrev pub putsWhere : Bool → ℕ → Cap → Capable
+putsWhere passes cd c = cond passes (Capable.Puts cd c) Capable.Other
+
+-- an answer is what is planned; Other says nothing
+abbrev pub Leads : Planned → Capable → Type 0
+Leads planned (Capable.Sets rd v) = planned ≡ Planned.Does (Effect.General rd v)
+Leads planned (Capable.Puts cd c) = planned ≡ Planned.Does (Effect.Capability cd c)
+Leads planned Capable.Other = Unit {0}
+
+-- whatever the other operands
+abbrev pub Derives : Instr → ℕ → Cap → Named → ℕ → Capable → Type 0
+Derives i cd pcc cb rt r = (o : Operands) → o .n20 ≡ cd → o .pcc ≡ pcc → o .c15 ≡ cb → o .g10 ≡ rt → Leads (settle (planOf o i)) r
