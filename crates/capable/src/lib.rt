@@ -101,29 +101,38 @@ pub fn capably(
 ) -> Capable
     ensures { λ r. ⌜ Capably i n25 n20 g25 g15 g10 pcc k25 c20 c15 (now (flash .entry)) (now (ram .entry)) (now (tags .entry)) (now (ram .exit)) (now (tags .exit)) r ⌝ }
 {
-    let by = c20.cap;
-    let opens = cap::register_open(pcc.perms, c20.number);
     match i {
         Instr::Load(size, signed, x) => {
-            let at = plain::reached(cap::LOAD, size, x, opens, by, g15);
-            puts_loaded(n25, plain::loaded(at, size, signed, flash, ram))
+            let opens = cap::register_open(pcc.perms, c20.number);
+            let at = plain::reached(cap::LOAD, size, x, opens, c20.cap, g15);
+            match size {
+                Size::Eight => {
+                    puts_loaded(n25, plain::loaded(at, Size::Eight, signed, flash, ram))
+                }
+                _ => puts_loaded(n25, plain::loaded(at, size, signed, flash, ram)),
+            }
         }
         Instr::Store(size, x) => {
-            let at = plain::reached(cap::STORE, size, x, opens, by, g15);
-            puts_stored(plain::stored(at, size, g25, flash, ram, tags))
+            let opens = cap::register_open(pcc.perms, c20.number);
+            let at = plain::reached(cap::STORE, size, x, opens, c20.cap, g15);
+            match size {
+                Size::Eight => puts_stored(plain::stored(at, Size::Eight, g25, flash, ram, tags)),
+                _ => puts_stored(plain::stored(at, size, g25, flash, ram, tags)),
+            }
         }
         Instr::LoadCapability(x) => {
-            let at = plain::reached(cap::LOAD_CAPABILITY, Size::Line, x, opens, by, g15);
+            let opens = cap::register_open(pcc.perms, c20.number);
+            let at = plain::reached(cap::LOAD_CAPABILITY, Size::Line, x, opens, c20.cap, g15);
             let at = held(cap::register_open(pcc.perms, n25), at);
             puts_line(n25, load_line(at, flash, ram, tags))
         }
         Instr::StoreCapability(x) => {
-            let local = cap::permits(by.perms, cap::STORE_LOCAL);
+            let local = cap::permits(c20.cap.perms, cap::STORE_LOCAL);
             let may = checks::either(local, cap::permits(k25.perms, cap::GLOBAL));
             let passes = checks::both(cap::register_open(pcc.perms, n25), may);
-            let at = plain::reached(cap::STORE_CAPABILITY, Size::Line, x, opens, by, g15);
-            let at = held(passes, at);
-            puts_stored(store_line(at, k25, flash, ram, tags))
+            let opens = cap::register_open(pcc.perms, c20.number);
+            let at = plain::reached(cap::STORE_CAPABILITY, Size::Line, x, opens, c20.cap, g15);
+            puts_stored(store_line(held(passes, at), k25, flash, ram, tags))
         }
         Instr::Get(field) => {
             let passes = cap::register_open(pcc.perms, c15.number);

@@ -138,7 +138,8 @@ fn branches(taken: bool, words: u64) -> Plain
     Plain::Sets(0, 0)
 }
 
-// What the instruction writes, on the registers at 25..21 and 20..16, and C0.
+// What the instruction writes, on the registers at 25..21 and 20..16, and C0. The common size stands by itself: its eight bytes are then
+// one number to the compiler.
 pub fn plainly(
     i: Instr,
     n20: u8,
@@ -160,11 +161,17 @@ pub fn plainly(
         Instr::Branch(equal, x) => branches(jump::is_wanted(equal, g25 == g20), x),
         Instr::LoadByC0(size, x) => {
             let at = reached(cap::LOAD, size, x, true, c0, g25);
-            sets_loaded(n20, loaded(at, size, false, flash, ram))
+            match size {
+                Size::Eight => sets_loaded(n20, loaded(at, Size::Eight, false, flash, ram)),
+                _ => sets_loaded(n20, loaded(at, size, false, flash, ram)),
+            }
         }
         Instr::StoreByC0(size, x) => {
             let at = reached(cap::STORE, size, x, true, c0, g25);
-            sets_stored(stored(at, size, g20, flash, ram, tags))
+            match size {
+                Size::Eight => sets_stored(stored(at, Size::Eight, g20, flash, ram, tags)),
+                _ => sets_stored(stored(at, size, g20, flash, ram, tags)),
+            }
         }
         _ => Plain::Other,
     }
