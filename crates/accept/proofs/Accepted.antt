@@ -9,12 +9,12 @@ use lib.ListN.{length, getD, take, drop, length-drop}
 use lib.Seq.{length-take-le}
 use borrow.Author.Tests.{le-leb, lt-leb, le-ltb, leb-true, ltb-false, not-true, eqb-true, eqb-false}
 use Rattle.mem.specs.Place.{RAM-BASE, memoryFits, tagsFit, placeOf, bytesOf}
-use Rattle.mem.specs.Store.{tagOf, tagAt}
+use Rattle.store.specs.Store.{tagOf, tagAt}
 use Rattle.mem.specs.declared.Place.{Place}
 use Rattle.cap.specs.declared.Cap.{Cap}
-use Rattle.cap.specs.Narrow.{null}
+use Rattle.narrow.specs.Narrow.{null}
 use Rattle.line.specs.Line.{fromWords, decode, capIn, loadCap}
-use Rattle.perform.specs.declared.Pending.{Pending}
+use Rattle.core.specs.declared.Pending.{Pending}
 use Rattle.accept.specs.declared.Refusal.{Refusal}
 use Rattle.accept.specs.declared.Verdict.{Verdict}
 use Rattle.accept.specs.Accept.{every, sizesFit, tagBytesFit, topFits, capsFit, jumpFits, loadedFits, lineAt, lineFits, linesFit, widthFits, widthsFit, jumpWidth, verdictOf}

@@ -4,15 +4,15 @@ use mathlib.Core.Bool.{Bool, true, false, cond, not, _&&_}
 use mathlib.Core.List.{List, []}
 use lib.ListN.{length, getD}
 use lib.Dec.{eqb, leb, ltb}
-use Rattle.mem.specs.declared.Address.{Address}
+use Rattle.num.specs.declared.Address.{Address}
 use Rattle.mem.specs.Place.{RAM-BASE, memoryFits, tagsFit}
-use Rattle.mem.specs.Store.{tagOf}
+use Rattle.store.specs.Store.{tagOf}
 use Rattle.cap.specs.declared.Cap.{Cap}
 use Rattle.line.specs.declared.LoadedCap.{LoadedCap}
 use Rattle.cap.specs.Cap.{inWidths}
 use Rattle.line.specs.Line.{loadCap}
-use Rattle.cap.specs.Narrow.{null}
-use Rattle.perform.specs.declared.Pending.{Pending}
+use Rattle.narrow.specs.Narrow.{null}
+use Rattle.core.specs.declared.Pending.{Pending}
 use Rattle.accept.specs.declared.Refusal.{Refusal}
 use Rattle.accept.specs.declared.Verdict.{Verdict}
 

@@ -1,10 +1,10 @@
 // Whether a start is accepted: the refusals 20, 21, 22 and 24, in this order (01, "Stop numbers").
 use cap::Cap;
+use core::Pending;
 use line::LoadedCap;
-use mem::Address;
-use mem::LINE;
 use mem::RAM_BASE;
-use perform::Pending;
+use num::Address;
+use num::LINE;
 ghost use mathlib.Core.Path.{_≡_};
 ghost use mathlib.Core.Bool.{Bool, not, _&&_};
 ghost use Prim.Native.Nat.{ℕ};
@@ -76,7 +76,7 @@ pub fn loaded_fits(loaded: LoadedCap) -> bool
 fn line_fits(ram: &[u8], tags: &[u8], line: usize) -> bool
     ensures { λ r. ⌜ r ≡ lineFits (now (ram .entry)) (now (tags .entry)) line ⌝ }
 {
-    if mem::tag_of(tags, line) {
+    if store::tag_of(tags, line) {
         let at = Address(RAM_BASE + (line % 0x100_0000) as u64 * 32);
         loaded_fits(line::load(&ram[..0], ram, tags, at))
     } else {

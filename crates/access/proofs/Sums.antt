@@ -7,9 +7,9 @@ use native.Mathlib.Nat.{add-zero, sub-zero, add-assoc}
 use borrow.Author.Tests.{ltb-false, lt-ltb, le-ltb, le-leb, lt-leb}
 use lib.Dec.{ltb, leb}
 use lib.IntN.{ℤ, pos, negsuc, _+ℤ_, subℕ, +ℤ-assoc, +ℤ-comm}
-use Rattle.mem.specs.declared.Address.{Address}
-use Rattle.mem.specs.declared.Offset.{Offset}
-use Rattle.mem.specs.Number.{plusMod, addressAt}
+use Rattle.num.specs.declared.Address.{Address}
+use Rattle.num.specs.declared.Offset.{Offset}
+use Rattle.num.specs.Number.{plusMod, addressAt}
 use Rattle.access.specs.declared.Sum.{Sum}
 use Rattle.access.specs.declared.Access.{Access}
 use Rattle.access.specs.Sum.{offsetOf, net}

@@ -3,7 +3,7 @@ use Prim.Native.Nat.{ℕ, suc, _+_, _-_, _%_, _^_}
 use mathlib.Core.Bool.{Bool, true, false, cond, _&&_}
 use lib.Dec.{ltb, leb, eqb}
 use lib.IntN.{ℤ, pos, negsuc, _+ℤ_}
-use Rattle.mem.specs.declared.Address.{Address}
+use Rattle.num.specs.declared.Address.{Address}
 use Rattle.cap.specs.declared.Cap.{Cap}
 use Rattle.access.specs.declared.Access.{Access}
 

@@ -1,12 +1,12 @@
 // The test of an access through a capability: exact sums, then the address (01, "Access and fetch").
 use cap::Cap;
-use mem::Address;
-use mem::Offset;
-use mem::Size;
+use num::Address;
+use num::Offset;
+use num::Size;
 ghost use mathlib.Core.Path.{_≡_};
 ghost use Prim.Native.Nat.{ℕ, _+_, _-_, _^_, _≤_, _<_};
 ghost use lib.Dec.{eqb};
-ghost use Rattle.mem.specs.Number.{bytesIn};
+ghost use Rattle.num.specs.Number.{bytesIn};
 ghost use Rattle.access.specs.Sum.{net, offsetOf};
 ghost use Rattle.access.specs.Access.{sumOf, aligned, placedAt, accessOf};
 
@@ -85,7 +85,7 @@ fn placed(base: Address, length: u64, offset: Offset, size: Size) -> Access
     ensures { λ r. ⌜ r ≡ placedAt (base .0) length (offset .0) (bytesIn size) ⌝ }
 {
     let o = offset.0;
-    let n = mem::size_bytes(size) as u64;
+    let n = num::size_bytes(size) as u64;
     if length < n {
         return Access::Length;
     }
@@ -95,7 +95,7 @@ fn placed(base: Address, length: u64, offset: Offset, size: Size) -> Access
     if cap::past_top(base, o + n) {
         return Access::Length;
     }
-    let a = mem::address_at(base, offset);
+    let a = num::address_at(base, offset);
     if is_aligned(a, size) {
         return Access::At(a);
     }

@@ -4,14 +4,8 @@ use mathlib.Core.Bool.{Bool, cond, _&&_}
 use mathlib.Core.List.{List}
 use lib.ListN.{length}
 use lib.Dec.{eqb, leb}
-use Rattle.state.specs.declared.Outcome.{Outcome}
-use Rattle.state.specs.Steps.{Result}
-use Rattle.record.specs.Record.{refusalNumber}
 use Rattle.record.specs.declared.Refusal.{Refusal}
-use Rattle.book.specs.declared.Verdict.{Verdict}
-use Rattle.enter.specs.Enter.{Start, judged, readBook}
-use Rattle.machine.specs.Run.{runOf}
-use Rattle.bench.specs.declared.Answer.{Answer}
+use Rattle.answer.specs.Answer.{Benched, refusing, bookRun}
 
 -- 32,768 bytes of RAM and a budget of 1,000
 abbrev pub BENCH-RAM : ℕ
@@ -23,32 +17,6 @@ BUDGET = 1000
 -- the largest file
 abbrev pub FILE-MOST : ℕ
 FILE-MOST = 65536
-
--- the answer, and what RAM and tags hold then
-pub record Benched : Type 0 where
-  pub answer : Answer
-  pub ram : List ℕ
-  pub tags : List ℕ
-
--- stop or refusal, cause code, register, place, steps
-abbrev pub answerOf : Outcome → Answer
-answerOf o = record { stop = o .stop; cause = o .cause; register = o .register; place = o .place; steps = o .steps }
-
--- zeros where they do not apply
-abbrev pub refusing : Refusal → Answer
-refusing refusal = record { stop = refusalNumber refusal; cause = 0; register = 0; place = 0; steps = 0 }
-
-abbrev pub ran : Result → Benched
-ran r = record { answer = answerOf (r .outcome); ram = r .ram; tags = r .tags }
-
--- a refused book makes no step and changes nothing; an accepted one is run
-abbrev pub startedBy : ℕ → Verdict → List ℕ → Start → Benched
-startedBy budget Verdict.Accepted flash s = ran (runOf budget flash (s .machine) (s .ram) (s .tags))
-startedBy budget (Verdict.Refused refusal) flash s = record { answer = refusing refusal; ram = s .ram; tags = s .tags }
-
-unfoldable pub bookRun : ℕ → List ℕ → List ℕ → List ℕ → List ℕ → Benched
-bookRun budget book flash ram tags =
-    startedBy budget (judged book (length flash) (length ram) (length tags)) flash (readBook book (length flash) ram tags)
 
 -- a file over 65,536 bytes is 20 (a flash over it is of a wrong size in any case), and so is a RAM that is not the bench's
 abbrev pub benchFits : ℕ → ℕ → Bool

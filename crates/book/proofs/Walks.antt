@@ -9,7 +9,8 @@ use lib.ListN.{length, take, drop}
 use Rattle.record.specs.declared.Refusal.{Refusal}
 use Rattle.record.specs.declared.Head.{Head}
 use Rattle.record.specs.declared.Entry.{Entry}
-use Rattle.record.specs.Record.{byte, headAt, entryOf}
+use Rattle.record.specs.Record.{byte, headAt}
+use Rattle.entry.specs.Entry.{entryOf}
 use Rattle.record.proofs.Laws.{body-fits}
 use Rattle.book.specs.declared.Step.{Step}
 use Rattle.book.specs.declared.Verdict.{Verdict}

@@ -7,7 +7,8 @@ use lib.Dec.{eqb, ltb}
 use Rattle.record.specs.declared.Refusal.{Refusal}
 use Rattle.record.specs.declared.Head.{Head}
 use Rattle.record.specs.declared.Entry.{Entry}
-use Rattle.record.specs.Record.{byte, headAt, entryOf}
+use Rattle.record.specs.Record.{byte, headAt}
+use Rattle.entry.specs.Entry.{entryOf}
 use Rattle.book.specs.declared.Step.{Step}
 use Rattle.book.specs.declared.Verdict.{Verdict}
 

@@ -85,7 +85,7 @@ pub fn step_at(book: &[u8], ram: usize, at: usize, kind: u8, key: u64) -> Step
         Head::Cut => Step::Refused(Refusal::Cut),
         Head::Body(start, bytes) => {
             let end = start + bytes;
-            after_entry(end, record::entry_in(&book[start..end], ram), kind, key)
+            after_entry(end, entry::entry_in(&book[start..end], ram), kind, key)
         }
     }
 }

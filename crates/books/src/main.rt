@@ -29,9 +29,9 @@ fn print_started(started: Started, ram: &[u8], tags: &[u8]) {
     let verdict = started.verdict;
     let m = started.machine;
     print(enter::verdict_number(verdict) as u64, b' ');
-    print(tables::sum_machine(m), b' ');
-    print(tables::sum_bytes(ram), b' ');
-    print(tables::sum_bytes(tags), b'\n');
+    print(sums::sum_machine(m), b' ');
+    print(sums::sum_bytes(ram), b' ');
+    print(sums::sum_bytes(tags), b'\n');
 }
 
 fn read_in(
@@ -42,7 +42,7 @@ fn read_in(
     ram: &mut [u8],
     tags: &mut [u8],
 ) {
-    tables::put_memory(tags, body, tags_at);
+    pieces::put_memory(tags, body, tags_at);
     let started = enter::read_book(book, flash, ram, tags);
     print_started(started, ram, tags);
 }
@@ -55,69 +55,69 @@ fn read_with_ram(
     ram: &mut [u8],
     tags: &mut [u8],
 ) {
-    let tags_at = tables::put_memory(ram, body, ram_at);
-    let n = tables::size_in(body, tags_at, tags);
+    let tags_at = pieces::put_memory(ram, body, ram_at);
+    let n = pieces::size_in(body, tags_at, tags);
     read_in(body, tags_at, book, flash, ram, &mut tags[..n]);
 }
 
 fn read_with_book(body: &[u8], book: &mut [u8], ram: &mut [u8], tags: &mut [u8]) {
-    let flash_at = tables::put_memory(book, body, FIRST);
+    let flash_at = pieces::put_memory(book, body, FIRST);
     let flash = tables::number_4(body, flash_at) as usize;
     let ram_at = tables::after(flash_at, 4);
-    let n = tables::size_in(body, ram_at, ram);
+    let n = pieces::size_in(body, ram_at, ram);
     read_with_ram(body, ram_at, book, flash, &mut ram[..n], tags);
 }
 
 // Reads the book of this case in these spaces, of which the book and each memory take their size.
 fn read_case(body: &[u8], book: &mut [u8], ram: &mut [u8], tags: &mut [u8]) {
-    let n = tables::size_in(body, FIRST, book);
+    let n = pieces::size_in(body, FIRST, book);
     read_with_book(body, &mut book[..n], ram, tags);
 }
 
 // The first bytes of `out` read as a book over memories full of other bytes.
 fn read_back(out: &[u8], bytes: usize, ram: &mut [u8], tags: &mut [u8]) {
     if bytes <= out.len() {
-        tables::fill(ram, 0xDD);
-        tables::fill(tags, 1);
+        pieces::fill(ram, 0xDD);
+        pieces::fill(tags, 1);
         let started = enter::read_book(&out[..bytes], 0, ram, tags);
         print_started(started, ram, tags);
     }
 }
 
 fn write_in(body: &[u8], out_at: usize, ram: &mut [u8], tags: &mut [u8], out: &mut [u8]) {
-    tables::put_memory(out, body, out_at);
+    pieces::put_memory(out, body, out_at);
     let written = write::write_book(tables::machine_in(body, FIRST), ram, tags, out);
     match written {
         Written::Refused(refusal) => {
             print(record::refusal_number(refusal) as u64, b' ');
             print(0, b' ');
-            print(tables::sum_bytes(out), b'\n');
+            print(sums::sum_bytes(out), b'\n');
         }
         Written::Book(bytes) => {
             print(0, b' ');
             print(bytes as u64, b' ');
-            print(tables::sum_bytes(out), b' ');
+            print(sums::sum_bytes(out), b' ');
             read_back(out, bytes, ram, tags);
         }
     }
 }
 
 fn write_with_tags(body: &[u8], tags_at: usize, ram: &mut [u8], tags: &mut [u8], out: &mut [u8]) {
-    let out_at = tables::put_memory(tags, body, tags_at);
-    let n = tables::size_in(body, out_at, out);
+    let out_at = pieces::put_memory(tags, body, tags_at);
+    let n = pieces::size_in(body, out_at, out);
     write_in(body, out_at, ram, tags, &mut out[..n]);
 }
 
 fn write_with_ram(body: &[u8], ram_at: usize, ram: &mut [u8], tags: &mut [u8], out: &mut [u8]) {
-    let tags_at = tables::put_memory(ram, body, ram_at);
-    let n = tables::size_in(body, tags_at, tags);
+    let tags_at = pieces::put_memory(ram, body, ram_at);
+    let n = pieces::size_in(body, tags_at, tags);
     write_with_tags(body, tags_at, ram, &mut tags[..n], out);
 }
 
 // Writes the book of this case in these spaces, of which each memory and the buffer take their size.
 fn write_case(body: &[u8], out: &mut [u8], ram: &mut [u8], tags: &mut [u8]) {
     let ram_at = tables::machine_end(body, FIRST);
-    let n = tables::size_in(body, ram_at, ram);
+    let n = pieces::size_in(body, ram_at, ram);
     write_with_ram(body, ram_at, &mut ram[..n], tags, out);
 }
 
@@ -131,7 +131,7 @@ fn one_case(body: &[u8], book: &mut [u8], ram: &mut [u8], tags: &mut [u8]) {
 
 fn all_cases(space: &mut [u8], book: &mut [u8], ram: &mut [u8], tags: &mut [u8]) {
     for _ in 0..MOST_CASES {
-        let n = tables::next_body(space);
+        let n = pieces::next_body(space);
         if n == 0 {
             return;
         }

@@ -1,2 +1,1 @@
-pub mod Narrows
 pub mod Perms

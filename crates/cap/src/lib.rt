@@ -1,13 +1,10 @@
 // Capabilities as values: fields, permissions and the registers they open (004, chapter 3).
-use mem::Address;
-use mem::Offset;
+use num::Address;
+use num::Offset;
 ghost use mathlib.Core.Path.{_≡_};
-ghost use Prim.Native.Nat.{ℕ, _+_, _^_};
+ghost use Prim.Native.Nat.{_+_, _^_};
 ghost use lib.Dec.{ltb};
-ghost use Rattle.cap.specs.Claims.{TopIsEmpty};
 ghost use Rattle.cap.specs.Cap.{permissionTable, permitted, inWidths, accessBit, registerOpen};
-
-pub mod narrow;
 
 pub struct Cap {
     pub base: Address,
@@ -132,8 +129,3 @@ pub fn register_open(perms: u32, register: u8) -> bool
         permits(perms, access_bit(register))
     }
 }
-
-// What the definitions promise of the top of memory.
-pub fn claims()
-    ensures top_is_empty { λ _. ⌜ TopIsEmpty ⌝ }
-{}

@@ -3,12 +3,12 @@ use Prim.Native.Nat.{ℕ}
 use mathlib.Core.Path.{_≡_, refl, sym, _∙_}
 use mathlib.Core.Bool.{Bool, true, false, not, _&&_, _||_}
 use mathlib.Core.List.{List}
-use Rattle.mem.specs.declared.Size.{Size}
-use Rattle.mem.specs.declared.Address.{Address}
+use Rattle.num.specs.declared.Size.{Size}
+use Rattle.num.specs.declared.Address.{Address}
 use Rattle.mem.specs.declared.Place.{Place}
 use Rattle.mem.specs.declared.Place.the-variants.{Flash, Ram, Nowhere}
-use Rattle.mem.specs.Number.{bytesIn}
-use Rattle.mem.specs.Store.{answerAt, ramAfter, tagsAfter}
+use Rattle.num.specs.Number.{bytesIn}
+use Rattle.store.specs.Store.{answerAt, ramAfter, tagsAfter}
 use Rattle.cap.specs.declared.Cap.{Cap}
 use Rattle.cap.specs.Cap.{LOAD, STORE, LOAD-CAPABILITY, STORE-CAPABILITY, STORE-LOCAL, GLOBAL, permits, registerOpen}
 use Rattle.line.specs.declared.LoadedCap.{LoadedCap}
@@ -23,9 +23,11 @@ use Rattle.checks.specs.Checks.{Checked, guard, settle}
 use Rattle.transfer.specs.Transfer.{load, store, cLC, cSC, mayStore}
 use Rattle.inspect.specs.Inspect.{fieldOf, get}
 use Rattle.plan.specs.declared.Operands.{Operands}
-use Rattle.perform.specs.Perform.{placeIn, turnOf, ramOf, tagsOf}
-use Rattle.plain.specs.Plain.{Reaches, loadedAt, storedAt, storesRam, storesTags}
-use Rattle.plain.proofs.Laws.{two, planned-at, planned-reached, load-does, store-does}
+use Rattle.perform.specs.Perform.{turnOf, ramOf, tagsOf}
+use Rattle.mem.specs.Place.{placeIn}
+use Rattle.data.specs.Data.{Reaches, loadedAt, storedAt, storesRam, storesTags}
+use Rattle.plain.proofs.Laws.{load-does, store-does}
+use Rattle.data.proofs.Reaches.{two, planned-at, planned-reached}
 use Rattle.deriving.specs.declared.Capable.{Capable}
 use Rattle.deriving.specs.Deriving.{Leads}
 use Rattle.capable.specs.Capable.{putsLoaded, putsStored, putsLine, setsWhere, heldWhere, lineAt, lineStored, lineRam, lineTags, Shows, Amounts}

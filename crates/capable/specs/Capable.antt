@@ -4,8 +4,8 @@ use mathlib.Core.Path.{_≡_}
 use mathlib.Core.Bool.{Bool, cond}
 use mathlib.Core.List.{List}
 use Rattle.mem.specs.declared.Loaded.{Loaded}
-use Rattle.mem.specs.declared.Stored.{Stored}
-use Rattle.mem.specs.Store.{answerAt, ramAfter, tagsAfter}
+use Rattle.store.specs.declared.Stored.{Stored}
+use Rattle.store.specs.Store.{answerAt, ramAfter, tagsAfter}
 use Rattle.cap.specs.declared.Cap.{Cap}
 use Rattle.line.specs.declared.LoadedCap.{LoadedCap}
 use Rattle.line.specs.Line.{encode, loadCap}
@@ -16,8 +16,9 @@ use Rattle.checks.specs.declared.Planned.{Planned}
 use Rattle.checks.specs.Checks.{settle}
 use Rattle.plan.specs.declared.Operands.{Operands}
 use Rattle.plan.specs.Plan.{planOf}
-use Rattle.perform.specs.declared.Pending.{Pending}
-use Rattle.perform.specs.Perform.{toGeneral, toCapability, placeIn}
+use Rattle.core.specs.declared.Pending.{Pending}
+use Rattle.perform.specs.Perform.{toGeneral, toCapability}
+use Rattle.mem.specs.Place.{placeIn}
 use Rattle.plain.specs.Plain.{Does, Untouched}
 use Rattle.deriving.specs.declared.Capable.{Capable}
 

@@ -7,8 +7,8 @@ use deriving::Capable;
 use isa::Instr;
 use line::LoadedCap;
 use mem::Loaded;
-use mem::Size;
-use mem::Stored;
+use num::Size;
+use store::Stored;
 ghost use mathlib.Core.Path.{_≡_};
 ghost use mathlib.Core.Bool.{Bool};
 ghost use Rattle.capable.specs.Capable.{putsLoaded, putsStored, putsLine, setsWhere, heldWhere, lineAt, lineStored, lineRam, lineTags, Capably};
@@ -76,7 +76,7 @@ fn store_line(lies: Access, c: Cap, flash: &[u8], ram: &mut [u8], tags: &mut [u8
     ensures { λ _. ⌜ now (tags .exit) ≡ lineTags (now (flash .entry)) (now (ram .entry)) (now (tags .entry)) c lies ⌝ }
 {
     match lies {
-        Access::At(at) => line::store(flash.len(), ram, tags, at, c),
+        Access::At(at) => capstore::store(flash.len(), ram, tags, at, c),
         Access::Length => Stored::Nowhere,
         Access::Misaligned => Stored::Nowhere,
     }
@@ -104,25 +104,25 @@ pub fn capably(
     match i {
         Instr::Load(size, signed, x) => {
             let opens = cap::register_open(pcc.perms, c20.number);
-            let at = plain::reached(cap::LOAD, size, x, opens, c20.cap, g15);
+            let at = data::reached(cap::LOAD, size, x, opens, c20.cap, g15);
             match size {
                 Size::Eight => {
-                    puts_loaded(n25, plain::loaded(at, Size::Eight, signed, flash, ram))
+                    puts_loaded(n25, data::loaded(at, Size::Eight, signed, flash, ram))
                 }
-                _ => puts_loaded(n25, plain::loaded(at, size, signed, flash, ram)),
+                _ => puts_loaded(n25, data::loaded(at, size, signed, flash, ram)),
             }
         }
         Instr::Store(size, x) => {
             let opens = cap::register_open(pcc.perms, c20.number);
-            let at = plain::reached(cap::STORE, size, x, opens, c20.cap, g15);
+            let at = data::reached(cap::STORE, size, x, opens, c20.cap, g15);
             match size {
-                Size::Eight => puts_stored(plain::stored(at, Size::Eight, g25, flash, ram, tags)),
-                _ => puts_stored(plain::stored(at, size, g25, flash, ram, tags)),
+                Size::Eight => puts_stored(data::stored(at, Size::Eight, g25, flash, ram, tags)),
+                _ => puts_stored(data::stored(at, size, g25, flash, ram, tags)),
             }
         }
         Instr::LoadCapability(x) => {
             let opens = cap::register_open(pcc.perms, c20.number);
-            let at = plain::reached(cap::LOAD_CAPABILITY, Size::Line, x, opens, c20.cap, g15);
+            let at = data::reached(cap::LOAD_CAPABILITY, Size::Line, x, opens, c20.cap, g15);
             let at = held(cap::register_open(pcc.perms, n25), at);
             puts_line(n25, load_line(at, flash, ram, tags))
         }
@@ -131,7 +131,7 @@ pub fn capably(
             let may = checks::either(local, cap::permits(k25.perms, cap::GLOBAL));
             let passes = checks::both(cap::register_open(pcc.perms, n25), may);
             let opens = cap::register_open(pcc.perms, c20.number);
-            let at = plain::reached(cap::STORE_CAPABILITY, Size::Line, x, opens, c20.cap, g15);
+            let at = data::reached(cap::STORE_CAPABILITY, Size::Line, x, opens, c20.cap, g15);
             puts_stored(store_line(held(passes, at), k25, flash, ram, tags))
         }
         Instr::Get(field) => {

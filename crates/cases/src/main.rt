@@ -27,39 +27,39 @@ fn print_outcome(o: Outcome) {
     print(o.register as u64, b' ');
     print(o.place, b' ');
     print(o.steps as u64, b' ');
-    print(tables::sum_machine(m), b' ');
+    print(sums::sum_machine(m), b' ');
 }
 
 fn run_in(body: &[u8], tags_at: usize, flash: &[u8], ram: &mut [u8], tags: &mut [u8]) {
-    tables::put_memory(tags, body, tags_at);
+    pieces::put_memory(tags, body, tags_at);
     let budget = tables::number_4(body, 1);
     print_outcome(machine::run(tables::machine_in(body, MACHINE), flash, ram, tags, budget));
-    print(tables::sum_bytes(ram), b' ');
-    print(tables::sum_bytes(tags), b'\n');
+    print(sums::sum_bytes(ram), b' ');
+    print(sums::sum_bytes(tags), b'\n');
 }
 
 fn with_ram(body: &[u8], ram_at: usize, flash: &[u8], ram: &mut [u8], tags: &mut [u8]) {
-    let tags_at = tables::put_memory(ram, body, ram_at);
-    let n = tables::size_in(body, tags_at, tags);
+    let tags_at = pieces::put_memory(ram, body, ram_at);
+    let n = pieces::size_in(body, tags_at, tags);
     run_in(body, tags_at, flash, ram, &mut tags[..n]);
 }
 
 fn with_flash(body: &[u8], flash_at: usize, flash: &mut [u8], ram: &mut [u8], tags: &mut [u8]) {
-    let ram_at = tables::put_memory(flash, body, flash_at);
-    let n = tables::size_in(body, ram_at, ram);
+    let ram_at = pieces::put_memory(flash, body, flash_at);
+    let n = pieces::size_in(body, ram_at, ram);
     with_ram(body, ram_at, flash, &mut ram[..n], tags);
 }
 
 // Runs the case of this body in these spaces, of which each memory takes its size.
 fn run_case(body: &[u8], flash: &mut [u8], ram: &mut [u8], tags: &mut [u8]) {
     let flash_at = tables::machine_end(body, MACHINE);
-    let n = tables::size_in(body, flash_at, flash);
+    let n = pieces::size_in(body, flash_at, flash);
     with_flash(body, flash_at, &mut flash[..n], ram, tags);
 }
 
 fn run_cases(space: &mut [u8], flash: &mut [u8], ram: &mut [u8], tags: &mut [u8]) {
     for _ in 0..MOST_CASES {
-        let n = tables::next_body(space);
+        let n = pieces::next_body(space);
         if n == 0 {
             return;
         }

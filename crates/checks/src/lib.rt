@@ -1,7 +1,7 @@
 // Checks before an effect: made one after the other on values; the first that fails decides.
 use cap::Cap;
-use mem::Address;
-use mem::Size;
+use num::Address;
+use num::Size;
 ghost use mathlib.Core.Path.{_≡_};
 ghost use mathlib.Core.Bool.{Bool, _&&_, _||_, not};
 ghost use Prim.Native.Nat.{ℕ, _+_};

@@ -8,10 +8,10 @@ use native.Mathlib.Numerals.{add-one}
 use lib.Dec.{leb}
 use lib.ListN.{length, getD, set, take, drop, length-append, drop-of-length-le}
 use lib.Seq.{length-take-le, take-all, paste, paste-suc}
-use Rattle.mem.specs.Number.{toBe}
-use Rattle.mem.specs.Store.{bit, put}
-use Rattle.mem.proofs.Numbers.{length-toBe}
-use Rattle.mem.proofs.Stores.{put-fits, put-next, length-put}
+use Rattle.num.specs.Number.{toBe}
+use Rattle.store.specs.Store.{bit, put}
+use Rattle.num.proofs.Numbers.{length-toBe}
+use Rattle.store.proofs.Stores.{put-fits, put-next, length-put}
 use Rattle.cap.specs.declared.Cap.{Cap}
 use Rattle.compose.specs.Compose.{fields, recordOf, capBody, generalBody, lineBody}
 

@@ -4,8 +4,8 @@ use mathlib.Core.Bool.{Bool, not, _&&_}
 use mathlib.Core.List.{List, [], _∷_, _++_}
 use lib.ListN.{length, getD}
 use lib.Dec.{eqb}
-use Rattle.mem.specs.Number.{toBe}
-use Rattle.mem.specs.Store.{bit}
+use Rattle.num.specs.Number.{toBe}
+use Rattle.store.specs.Store.{bit}
 use Rattle.cap.specs.declared.Cap.{Cap}
 use Rattle.accept.specs.Accept.{every}
 

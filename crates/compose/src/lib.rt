@@ -5,7 +5,7 @@ ghost use mathlib.Core.Bool.{Bool};
 ghost use Prim.Native.Nat.{ℕ, _+_};
 ghost use lib.ListN.{length};
 ghost use lib.Dec.{leb};
-ghost use Rattle.mem.specs.Store.{put};
+ghost use Rattle.store.specs.Store.{put};
 ghost use Rattle.compose.specs.Compose.{recordOf, capBody, generalBody, lineBody, zeroCap, zeroBytes};
 
 // The bytes of a record of kind 1 and of kind 2, and those of kind 3 before the line's own.
@@ -79,17 +79,17 @@ pub fn put_cap(out: &mut [u8], at: usize, number: u8, c: Cap)
     ensures { λ _. ⌜ now (out .exit) ≡ put (now (out .entry)) at (recordOf (capBody number c)) ⌝ }
 {
     if has_room(at, CAP_RECORD, out.len()) {
-        mem::put_be(out, at, 2, 36);
-        mem::put_be(out, at + 2, 1, 1);
-        mem::put_be(out, at + 3, 1, number as u64);
-        mem::put_be(out, at + 4, 1, mem::tag_byte(c.tag) as u64);
-        mem::put_be(out, at + 5, 1, mem::tag_byte(c.sealed) as u64);
-        mem::put_be(out, at + 6, 1, c.spare as u64);
-        mem::put_be(out, at + 7, 3, c.otype as u64);
-        mem::put_be(out, at + 10, 4, c.perms as u64);
-        mem::put_be(out, at + 14, 8, c.base.0);
-        mem::put_be(out, at + 22, 8, c.length);
-        mem::put_be(out, at + 30, 8, c.offset.0);
+        store::put_be(out, at, 2, 36);
+        store::put_be(out, at + 2, 1, 1);
+        store::put_be(out, at + 3, 1, number as u64);
+        store::put_be(out, at + 4, 1, store::tag_byte(c.tag) as u64);
+        store::put_be(out, at + 5, 1, store::tag_byte(c.sealed) as u64);
+        store::put_be(out, at + 6, 1, c.spare as u64);
+        store::put_be(out, at + 7, 3, c.otype as u64);
+        store::put_be(out, at + 10, 4, c.perms as u64);
+        store::put_be(out, at + 14, 8, c.base.0);
+        store::put_be(out, at + 22, 8, c.length);
+        store::put_be(out, at + 30, 8, c.offset.0);
     }
 }
 
@@ -98,10 +98,10 @@ pub fn put_general(out: &mut [u8], at: usize, number: u8, value: u64)
     ensures { λ _. ⌜ now (out .exit) ≡ put (now (out .entry)) at (recordOf (generalBody number value)) ⌝ }
 {
     if has_room(at, GENERAL_RECORD, out.len()) {
-        mem::put_be(out, at, 2, 10);
-        mem::put_be(out, at + 2, 1, 2);
-        mem::put_be(out, at + 3, 1, number as u64);
-        mem::put_be(out, at + 4, 8, value);
+        store::put_be(out, at, 2, 10);
+        store::put_be(out, at + 2, 1, 2);
+        store::put_be(out, at + 3, 1, number as u64);
+        store::put_be(out, at + 4, 8, value);
     }
 }
 
@@ -111,10 +111,10 @@ pub fn put_line(out: &mut [u8], at: usize, address: u64, tag: bool, bytes: &[u8]
 {
     let n = bytes.len();
     if has_room(at, LINE_HEAD + n, out.len()) {
-        mem::put_be(out, at, 2, (10 + n) as u64);
-        mem::put_be(out, at + 2, 1, 3);
-        mem::put_be(out, at + 3, 8, address);
-        mem::put_be(out, at + 11, 1, mem::tag_byte(tag) as u64);
+        store::put_be(out, at, 2, (10 + n) as u64);
+        store::put_be(out, at + 2, 1, 3);
+        store::put_be(out, at + 3, 8, address);
+        store::put_be(out, at + 11, 1, store::tag_byte(tag) as u64);
         put_bytes(out, at + 12, bytes);
     }
 }

@@ -3,8 +3,8 @@ use Prim.Native.Nat.{ℕ, _*_, _/_, _%_, _^_}
 use mathlib.Core.Bool.{Bool}
 use lib.Dec.{ltb}
 use lib.Bits.{bitAnd, bitOr, bitXor}
-use Rattle.mem.specs.Number.{plusMod, minusMod}
-use Rattle.mem.specs.Store.{bit}
+use Rattle.num.specs.Number.{plusMod, minusMod}
+use Rattle.store.specs.Store.{bit}
 use Rattle.isa.specs.declared.Alu.{Alu}
 
 -- the order of signed numbers turns at 2^63: both are moved up by it

@@ -1,7 +1,7 @@
 // The arithmetic of the MIPS instructions, on 64 bits.
 use isa::Alu;
 ghost use mathlib.Core.Path.{_≡_};
-ghost use Rattle.mem.specs.Store.{bit};
+ghost use Rattle.store.specs.Store.{bit};
 ghost use Rattle.compute.specs.Compute.{signedLess, computeOf};
 
 // Whether a is below b as signed numbers: both are moved up by 2^63.

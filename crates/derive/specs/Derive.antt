@@ -1,14 +1,14 @@
 -- The instructions that derive a capability from another (004, chapter 4): each a page, one check a line.
 -- cd is a register's number, cb, cs and ct are registers with what they hold, rt is a general register's value.
-use Prim.Native.Nat.{ℕ, _+_, _^_}
+use Prim.Native.Nat.{ℕ}
 use mathlib.Core.Bool.{Bool, not, _&&_, _||_}
-use lib.Dec.{eqb, leb, ltb}
+use lib.Dec.{eqb, leb}
 use Rattle.cap.specs.declared.Cap.{Cap}
 use Rattle.cap.specs.Cap as Cap
-use Rattle.cap.specs.Narrow.{andPerms, clearTag, incBase, setLength, setOffset, incOffset, fromPtr, sealedBy, unsealedBy}
+use Rattle.narrow.specs.Narrow.{andPerms, clearTag, incBase, setLength, setOffset, incOffset, fromPtr}
 use Rattle.checks.specs.declared.Named.{Named}
 use Rattle.checks.specs.declared.Effect.the-variants.{Capability}
-use Rattle.checks.specs.Checks.{Checked, ok, _>>_, that, opened, tagged, unsealed, granted, LENGTH, TAG, SEAL, TYPE}
+use Rattle.checks.specs.Checks.{Checked, ok, that, opened, tagged, unsealed, LENGTH, TAG, SEAL, _>>_}
 
 abbrev pub isZero : ℕ → Bool
 isZero n = eqb n 0
@@ -80,33 +80,3 @@ cFromPtr pcc cd cb rt = do
   that (isZero rt || not (cb .cap .sealed)) SEAL (cb .number)
   that (isZero rt || leb rt (cb .cap .length)) LENGTH (cb .number)
   ok (Capability cd (fromPtr (cb .cap) rt))
-
--- CSeal: Seal a Capability. Both Length tests name ct (ruling A17).
-unfoldable pub cSeal : Cap → ℕ → Named → Named → Checked
-cSeal pcc cd cs ct = do
-  opened pcc cd
-  opened pcc (cs .number)
-  opened pcc (ct .number)
-  tagged cs
-  tagged ct
-  unsealed cs
-  unsealed ct
-  granted Cap.SEAL ct
-  that (ltb (ct .cap .offset .0) (ct .cap .length)) LENGTH (ct .number)
-  that (ltb (ct .cap .base .0 + ct .cap .offset .0) (2 ^ 24)) LENGTH (ct .number)
-  ok (Capability cd (sealedBy (cs .cap) (ct .cap)))
-
--- CUnseal: Unseal a sealed capability. The sum is exact; Type names ct (ruling A9).
-unfoldable pub cUnseal : Cap → ℕ → Named → Named → Checked
-cUnseal pcc cd cs ct = do
-  opened pcc cd
-  opened pcc (cs .number)
-  opened pcc (ct .number)
-  tagged cs
-  tagged ct
-  that (cs .cap .sealed) SEAL (cs .number)
-  unsealed ct
-  that (eqb (ct .cap .base .0 + ct .cap .offset .0) (cs .cap .otype)) TYPE (ct .number)
-  granted Cap.SEAL ct
-  that (ltb (ct .cap .offset .0) (ct .cap .length)) LENGTH (ct .number)
-  ok (Capability cd (unsealedBy (cs .cap) (ct .cap)))

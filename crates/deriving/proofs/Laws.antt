@@ -5,13 +5,13 @@ use mathlib.Core.Bool.{Bool, true, false, not, _&&_}
 use lib.Dec.{leb}
 use Rattle.cap.specs.declared.Cap.{Cap}
 use Rattle.cap.specs.Cap.{registerOpen}
-use Rattle.cap.specs.Narrow.{andPerms, clearTag, incBase, setLength, setOffset, incOffset}
+use Rattle.narrow.specs.Narrow.{andPerms, clearTag, incBase, setLength, setOffset, incOffset}
 use Rattle.checks.specs.declared.Named.{Named}
 use Rattle.checks.specs.declared.Effect.{Effect}
 use Rattle.checks.specs.declared.Planned.{Planned}
 use Rattle.checks.specs.Checks.{settle}
 use Rattle.derive.specs.Derive.{cAndPerm, cClearTag, cIncBase, cSetLen, cSetOffset, cIncOffset}
-use Rattle.plain.proofs.Laws.{two}
+use Rattle.data.proofs.Reaches.{two}
 use Rattle.deriving.specs.declared.Capable.{Capable}
 use Rattle.deriving.specs.Deriving.{putsWhere, Leads}
 

@@ -1,9 +1,8 @@
 // Instructions that derive a capability register from the one at 15..11, carried out on the values that their words name.
 use cap::Cap;
-use cap::narrow;
 use checks::Named;
 use isa::Instr;
-use mem::Offset;
+use num::Offset;
 ghost use mathlib.Core.Path.{_≡_};
 ghost use Rattle.deriving.specs.Deriving.{putsWhere, Derives};
 

@@ -6,12 +6,12 @@ use native.Mathlib.Omega.{arith}
 use native.Mathlib.Nat.{add-sub-cancel-left}
 use lib.ListN.{length, take, drop, replicate, length-drop, length-take, drop-of-length-le}
 use lib.Seq.{length-take-le, take-length}
-use Rattle.mem.specs.Store.{put}
-use Rattle.mem.proofs.Stores.{put-part}
-use Rattle.state.specs.declared.Machine.{Machine}
+use Rattle.store.specs.Store.{put}
+use Rattle.store.proofs.Stores.{put-part}
+use Rattle.core.specs.declared.Machine.{Machine}
 use Rattle.record.specs.declared.Refusal.{Refusal}
 use Rattle.record.specs.declared.Entry.{Entry}
-use Rattle.record.proofs.Laws.{Fits, entry-fits}
+use Rattle.entry.proofs.Laws.{Fits, entry-fits}
 use Rattle.book.specs.declared.Step.{Step}
 use Rattle.book.specs.Book.{kindOf, keyOf, stepAt}
 use Rattle.book.proofs.Walks.{GoesOn, more-goes-on, more-fits, step-end}

@@ -4,13 +4,13 @@ use mathlib.Core.Bool.{cond}
 use mathlib.Core.List.{List}
 use lib.ListN.{length, take, drop, set, replicate}
 use lib.Dec.{eqb}
-use Rattle.mem.specs.Number.{LINE}
+use Rattle.num.specs.Number.{LINE}
 use Rattle.mem.specs.Place.{RAM-BASE}
-use Rattle.mem.specs.Store.{put, withTag}
+use Rattle.store.specs.Store.{put, withTag}
 use Rattle.cap.specs.declared.Cap.{Cap}
-use Rattle.cap.specs.Narrow.{null}
-use Rattle.perform.specs.declared.Pending.{Pending}
-use Rattle.state.specs.declared.Machine.{Machine}
+use Rattle.narrow.specs.Narrow.{null}
+use Rattle.core.specs.declared.Pending.{Pending}
+use Rattle.core.specs.declared.Machine.{Machine}
 use Rattle.accept.specs.Accept.{sizesFit}
 use Rattle.record.specs.declared.Refusal.{Refusal}
 use Rattle.record.specs.declared.Entry.{Entry}

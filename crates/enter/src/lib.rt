@@ -2,13 +2,13 @@
 use book::Step;
 use book::Verdict;
 use cap::Cap;
-use mem::LINE;
+use core::Machine;
+use core::Pending;
 use mem::RAM_BASE;
-use perform::Pending;
+use num::LINE;
 use record::Entry;
 use record::PCC;
 use record::Refusal;
-use state::Machine;
 ghost use mathlib.Core.Path.{_≡_};
 ghost use Prim.Native.Nat.{_≤_};
 ghost use lib.ListN.{length, replicate};
@@ -34,7 +34,7 @@ pub fn verdict_number(verdict: Verdict) -> u8
 pub fn zero_machine() -> Machine
     ensures { λ r. ⌜ r ≡ zeroMachine ⌝ }
 {
-    let c = cap::narrow::no_cap();
+    let c = narrow::no_cap();
     Machine {
         general: [0; 32],
         caps: [c; 32],
@@ -104,7 +104,7 @@ fn put_entry(book: &[u8], end: usize, entry: Entry, ram: &mut [u8], tags: &mut [
             let e = at + LINE;
             let start = end - LINE;
             bytes::copy(&book[start..end], &mut ram[at..e]);
-            mem::with_tag(tags, at / LINE, tag);
+            store::with_tag(tags, at / LINE, tag);
         }
         Entry::Capability(_, _) => {}
         Entry::General(_, _) => {}

@@ -5,21 +5,22 @@ use mathlib.Core.Bool.{Bool, true, false}
 use mathlib.Core.List.{List, [], _∷_}
 use native.Mathlib.Omega.{arith}
 use lib.ListN.{getD, set}
-use Rattle.mem.specs.declared.Offset.{Offset}
+use Rattle.num.specs.declared.Offset.{Offset}
 use Rattle.cap.specs.declared.Cap.{Cap}
-use Rattle.cap.specs.Narrow.{null, setOffset, incOffset}
+use Rattle.narrow.specs.Narrow.{null, setOffset, incOffset}
 use Rattle.isa.specs.declared.Instr.{Instr}
 use Rattle.isa.specs.Word.{field25, field20, field15, field10}
-use Rattle.jump.specs.Jump.{branchOffset, branchTo}
+use Rattle.branch.specs.Branch.{branchOffset, branchTo}
 use Rattle.checks.specs.declared.Planned.{Planned}
 use Rattle.checks.specs.Checks.{settle}
 use Rattle.plan.specs.declared.Operands.{Operands}
 use Rattle.plan.specs.Plan.{planOf}
 use Rattle.perform.specs.declared.Change.{Change}
-use Rattle.perform.specs.declared.Pending.{Pending}
-use Rattle.perform.specs.declared.Fetched.{Fetched}
+use Rattle.core.specs.declared.Pending.{Pending}
+use Rattle.fetch.specs.declared.Fetched.{Fetched}
 use Rattle.perform.specs.Perform.{toGeneral}
-use Rattle.perform.specs.Fetch.{fetchOf, wordOf, isPending}
+use Rattle.fetch.specs.Fetch.{fetchOf, wordOf}
+use Rattle.core.specs.Registers.{isPending}
 use Rattle.plain.specs.declared.Plain.{Plain}
 use Rattle.plain.specs.Plain.{aheadOf, Does, Untouched, Sees, Means, Plainly}
 use Rattle.plain.proofs.Laws.{ahead-goes}

@@ -4,13 +4,13 @@ use mathlib.Core.Path.{_≡_}
 use mathlib.Core.Bool.{Bool, true, cond, _&&_, _||_}
 use mathlib.Core.List.{List}
 use lib.Dec.{eqb, leb}
-use Rattle.mem.specs.declared.Offset.{Offset}
-use Rattle.mem.specs.Number.{movedBy}
+use Rattle.num.specs.declared.Offset.{Offset}
+use Rattle.num.specs.Number.{movedBy}
 use Rattle.cap.specs.declared.Cap.{Cap}
-use Rattle.cap.specs.Narrow.{setOffset}
+use Rattle.narrow.specs.Narrow.{setOffset}
 use Rattle.isa.specs.Word.{major, field25}
-use Rattle.perform.specs.declared.Pending.{Pending}
-use Rattle.state.specs.declared.Machine.{Machine}
+use Rattle.core.specs.declared.Pending.{Pending}
+use Rattle.core.specs.declared.Machine.{Machine}
 use Rattle.state.specs.Steps.{runFrom}
 
 abbrev pub nextAt : Bool → Offset → Offset → Offset

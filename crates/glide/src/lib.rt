@@ -1,15 +1,14 @@
 // Steps made one after the other by a shorter way, as far as it goes: the whole way makes the others.
 use cap::Cap;
-use cap::narrow;
 use checks::Named;
+use core::Pending;
 use deriving::Capable;
-use mem::Offset;
-use perform::Pending;
+use num::Offset;
 use plain::Plain;
 ghost use mathlib.Core.Path.{_≡_};
 ghost use mathlib.Core.List.{List};
 ghost use Prim.Native.Nat.{ℕ, _≤_};
-ghost use Rattle.cap.specs.Narrow.{setOffset};
+ghost use Rattle.narrow.specs.Narrow.{setOffset};
 ghost use Rattle.glide.specs.Glide.{nextAt, waitingAt, lightWord, Glides};
 
 // So many steps on: the capability registers, PCC and the pending jump then.
@@ -27,7 +26,7 @@ fn next_at(slot: bool, at: Offset, target: Offset) -> Offset
     if slot {
         return target;
     }
-    mem::moved(at, 4)
+    num::moved(at, 4)
 }
 
 // A branch within PCC, or no jump.
@@ -72,8 +71,8 @@ fn slide(
     let mut target = at;
     while n < budget {
         let here = narrow::set_offset(pcc, at);
-        let fetched = perform::fetch(flash, ram, here);
-        let w = perform::word_of(fetched);
+        let fetched = fetch::fetch(flash, ram, here);
+        let w = fetch::word_of(fetched);
         let i = plain::ahead(fetched, slot);
         let n25 = isa::field_25(w);
         let i25 = n25 as usize;
@@ -92,7 +91,7 @@ fn slide(
             }
             Plain::Jumps(words) => {
                 g[0] = 0;
-                let to = jump::branch_offset(at, words);
+                let to = branch::branch_offset(at, words);
                 at = next_at(slot, at, target);
                 target = to;
                 slot = true;

@@ -7,9 +7,9 @@ use native.Mathlib.Omega.{arith}
 use borrow.Author.Tests.{eq-eqb, le-ltb}
 use lib.Dec.{eqb, ltb}
 use lib.ListN.{length, getD}
-use Rattle.mem.specs.Store.{tagOf}
+use Rattle.store.specs.Store.{tagOf}
 use Rattle.cap.specs.declared.Cap.{Cap}
-use Rattle.cap.specs.Narrow.{null}
+use Rattle.narrow.specs.Narrow.{null}
 use Rattle.accept.specs.declared.Refusal.{Refusal}
 use Rattle.accept.specs.declared.Verdict.{Verdict}
 use Rattle.accept.specs.Accept.{every, sizesFit, tagBytesFit, topFits, capsFit, jumpFits, lineFits, linesFit, widthFits, widthsFit, jumpWidth, verdictOf}

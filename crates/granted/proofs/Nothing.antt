@@ -6,18 +6,19 @@ use mathlib.Core.List.{List, [], _∷_}
 use native.Mathlib.Omega.{arith}
 use lib.ListN.{length}
 use Rattle.cap.specs.declared.Cap.{Cap}
-use Rattle.cap.specs.Narrow.{null}
+use Rattle.narrow.specs.Narrow.{null}
 use Rattle.checks.specs.declared.Fault.{Fault}
-use Rattle.perform.specs.declared.Pending.{Pending}
+use Rattle.core.specs.declared.Pending.{Pending}
 use Rattle.perform.specs.declared.Turn.{Turn}
-use Rattle.perform.specs.declared.Fetched.{Fetched}
-use Rattle.perform.specs.Fetch.{fetchOf, plannedOf}
+use Rattle.fetch.specs.declared.Fetched.{Fetched}
+use Rattle.perform.specs.Act.{plannedOf}
+use Rattle.fetch.specs.Fetch.{fetchOf}
 use Rattle.accept.specs.Accept.{sizesFit}
-use Rattle.state.specs.declared.Machine.{Machine}
+use Rattle.core.specs.declared.Machine.{Machine}
 use Rattle.state.specs.State.{capability, stoppedAt}
 use Rattle.state.specs.Steps.{turnAt, ramAt, tagsAt, runFrom}
 use Rattle.state.proofs.Runs.{off, first}
-use Rattle.machine.specs.Run.{runOf}
+use Rattle.state.specs.Run.{runOf}
 use Rattle.record.specs.Record.{headAt}
 use Rattle.book.specs.Book.{afterHead, stepAt, walk, checkBook}
 use Rattle.enter.specs.Enter.{Start, zeroMachine, enterAll, judged}

@@ -8,8 +8,8 @@ use borrow.Author.Tests.{leb-true, eqb-true}
 use lib.Dec.{eqb, leb}
 use lib.ListN.{length, getD, replicate, length-replicate}
 use Rattle.mem.specs.Place.{memoryFits, tagsFit}
-use Rattle.mem.specs.Store.{tagOf}
-use Rattle.cap.specs.Narrow.{null}
+use Rattle.store.specs.Store.{tagOf}
+use Rattle.narrow.specs.Narrow.{null}
 use Rattle.accept.specs.Accept.{sizesFit}
 use Rattle.record.specs.declared.Refusal.{Refusal}
 use Rattle.book.specs.declared.Verdict.{Verdict}

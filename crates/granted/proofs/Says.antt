@@ -14,7 +14,9 @@ use Rattle.cap.specs.declared.Cap.{Cap}
 use Rattle.line.specs.Line.{capIn}
 use Rattle.accept.specs.Accept.{topFits, loadedFits, widthFits}
 use Rattle.record.specs.declared.Entry.{Entry}
-use Rattle.record.specs.Record.{byte, number, generalOf, capOf, capabilityOf, isLine, lineOf, entryOf}
+use Rattle.record.specs.Record.{byte, number}
+use Rattle.entry.specs.Entry.{generalOf, isLine, lineOf, entryOf}
+use Rattle.fields.specs.Fields.{capOf, capabilityOf}
 use Rattle.book.specs.declared.Step.{Step}
 use Rattle.book.specs.Book.{stepAt}
 use Rattle.book.proofs.Walks.{more-goes-on, more-fits}

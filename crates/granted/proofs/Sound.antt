@@ -10,14 +10,14 @@ use lib.Dec.{eqb, ltb}
 use lib.ListN.{length, getD, set, take, drop, length-take, length-drop}
 use lib.Seq.{ext-getD, getD-take, getD-drop, getD-set-other, length-take-le}
 use Rattle.mem.specs.Place.{RAM-BASE}
-use Rattle.mem.specs.Store.{bit, put, tagOf, withTag}
-use Rattle.mem.proofs.Stores.{length-put, put-read, others-stay, length-withTag, tag-is-set, other-tags-stay}
+use Rattle.store.specs.Store.{bit, put, tagOf, withTag}
+use Rattle.store.proofs.Stores.{length-put, put-read, others-stay, length-withTag, tag-is-set, other-tags-stay}
 use Rattle.cap.specs.declared.Cap.{Cap}
-use Rattle.cap.specs.Narrow.{null}
+use Rattle.narrow.specs.Narrow.{null}
 use Rattle.line.specs.Line.{capIn}
-use Rattle.perform.specs.declared.Pending.{Pending}
+use Rattle.core.specs.declared.Pending.{Pending}
 use Rattle.accept.specs.Accept.{loadedFits}
-use Rattle.state.specs.declared.Machine.{Machine}
+use Rattle.core.specs.declared.Machine.{Machine}
 use Rattle.record.specs.declared.Entry.{Entry}
 use Rattle.book.specs.declared.Step.{Step}
 use Rattle.book.specs.Book.{kindOf, keyOf, stepAt}

@@ -7,9 +7,9 @@ use lib.ListN.{length, getD, replicate}
 use Rattle.cap.specs.declared.Cap.{Cap}
 use Rattle.accept.specs.declared.Verdict as start
 use Rattle.accept.specs.Accept.{sizesFit, verdictOf}
-use Rattle.state.specs.declared.Machine.{Machine}
+use Rattle.core.specs.declared.Machine.{Machine}
 use Rattle.state.specs.State.{capability}
-use Rattle.machine.specs.Run.{runOf}
+use Rattle.state.specs.Run.{runOf}
 use Rattle.book.specs.declared.Verdict.{Verdict}
 use Rattle.enter.specs.Enter.{Start, zeroMachine, judged, readBook}
 use Rattle.isolation.specs.Reach.{Memories, Reach, CanRead, CanLoad}

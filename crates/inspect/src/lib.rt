@@ -8,11 +8,10 @@ use checks::Planned;
 use checks::SEAL;
 use checks::TYPE;
 use checks::USER;
-use isa::Compare;
 use isa::Field;
 ghost use mathlib.Core.Path.{_≡_};
 ghost use Rattle.checks.specs.Checks.{settle};
-ghost use Rattle.inspect.specs.Inspect.{CauseOpen, sameBool, fieldOf, isEqual, isLess, isLessSigned, compares, pointerOf, get, cGetCause, cSetCause, cToPtr, cCheckPerm, cCheckType, cPtrCmp};
+ghost use Rattle.inspect.specs.Inspect.{CauseOpen, fieldOf, pointerOf, get, cGetCause, cSetCause, cToPtr, cCheckPerm, cCheckType};
 
 pub fn field_of(field: Field, c: Cap) -> u64
     ensures { λ r. ⌜ r ≡ fieldOf field c ⌝ }
@@ -66,8 +65,8 @@ fn pointer_of(c: Cap, from: Cap) -> u64
     ensures { λ r. ⌜ r ≡ pointerOf c from ⌝ }
 {
     if c.tag {
-        let at = mem::address_at(c.base, c.offset);
-        let distance = mem::offset_to(from.base, at);
+        let at = num::address_at(c.base, c.offset);
+        let distance = num::offset_to(from.base, at);
         distance.0
     } else {
         0
@@ -104,64 +103,4 @@ pub fn check_type(pcc: Cap, cs: Named, cb: Named) -> Planned
     let k = checks::that(k, cb.cap.sealed, SEAL, cb.number);
     let k = checks::that(k, cs.cap.otype == cb.cap.otype, TYPE, cs.number);
     checks::does(k, Effect::Nothing)
-}
-
-fn same(a: bool, b: bool) -> bool
-    ensures { λ r. ⌜ r ≡ sameBool a b ⌝ }
-{
-    if a { b } else { !b }
-}
-
-fn is_equal(c: Cap, d: Cap) -> bool
-    ensures { λ r. ⌜ r ≡ isEqual c d ⌝ }
-{
-    let x = mem::address_at(c.base, c.offset);
-    let y = mem::address_at(d.base, d.offset);
-    checks::both(same(c.tag, d.tag), x.0 == y.0)
-}
-
-fn is_less(c: Cap, d: Cap) -> bool
-    ensures { λ r. ⌜ r ≡ isLess c d ⌝ }
-{
-    let x = mem::address_at(c.base, c.offset);
-    let y = mem::address_at(d.base, d.offset);
-    if same(c.tag, d.tag) {
-        x.0 < y.0
-    } else {
-        !c.tag
-    }
-}
-
-fn is_less_signed(c: Cap, d: Cap) -> bool
-    ensures { λ r. ⌜ r ≡ isLessSigned c d ⌝ }
-{
-    let x = mem::address_at(c.base, c.offset);
-    let y = mem::address_at(d.base, d.offset);
-    if same(c.tag, d.tag) {
-        compute::signed_less(x.0, y.0)
-    } else {
-        !c.tag
-    }
-}
-
-fn do_compare(kind: Compare, c: Cap, d: Cap) -> bool
-    ensures { λ r. ⌜ r ≡ compares kind c d ⌝ }
-{
-    match kind {
-        Compare::Eq => is_equal(c, d),
-        Compare::Ne => !is_equal(c, d),
-        Compare::Lt => is_less_signed(c, d),
-        Compare::Le => checks::either(is_less_signed(c, d), is_equal(c, d)),
-        Compare::Ltu => is_less(c, d),
-        Compare::Leu => checks::either(is_less(c, d), is_equal(c, d)),
-    }
-}
-
-pub fn ptr_compare(kind: Compare, pcc: Cap, rd: u8, cb: Named, ct: Named) -> Planned
-    ensures { λ r. ⌜ r ≡ settle (cPtrCmp kind pcc rd cb ct) ⌝ }
-{
-    let k = checks::opened(Check::Passed, pcc.perms, cb.number);
-    let k = checks::opened(k, pcc.perms, ct.number);
-    let value = compute::number(do_compare(kind, cb.cap, ct.cap));
-    checks::does(k, Effect::General(rd, value))
 }

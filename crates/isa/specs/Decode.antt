@@ -3,8 +3,8 @@ use Prim.Native.Nat.{ℕ, _*_, _/_, _%_, _^_}
 use mathlib.Core.List.{List, [], _∷_}
 use mathlib.Core.Bool.{Bool, true, false, cond, _&&_}
 use lib.Dec.{eqb, leb}
-use Rattle.mem.specs.declared.Size.{Size}
-use Rattle.mem.specs.declared.Size.the-variants.{One, Two, Four, Eight}
+use Rattle.num.specs.declared.Size.{Size}
+use Rattle.num.specs.declared.Size.the-variants.{One, Two, Four, Eight}
 use Rattle.isa.specs.Word.{major, field25, field10, below, extended, signed8, signed11, signed16}
 use Rattle.isa.specs.declared.Alu.the-variants.{Daddu, Dsubu, And, Or, Xor, Slt, Sltu, Dsllv, Dsrlv}
 use Rattle.isa.specs.declared.Field.the-variants.{Base, Length, Offset, Perms, Tag, Sealed, Otype}

@@ -1,6 +1,6 @@
 -- The fields of an instruction word (01, "Instruction words").
 use Prim.Native.Nat.{ℕ, _-_, _*_, _/_, _%_, _^_}
-use Rattle.mem.specs.Number.{extendFrom}
+use Rattle.num.specs.Number.{extendFrom}
 
 -- bits 31..26
 abbrev pub major : ℕ → ℕ

@@ -5,14 +5,14 @@ use mathlib.Core.Bool.{Bool, true, false, cond, not}
 use mathlib.Core.List.{List}
 use native.Mathlib.Omega.{arith}
 use lib.ListN.{length, getD, take, drop}
-use Rattle.mem.specs.declared.Address.{Address}
+use Rattle.num.specs.declared.Address.{Address}
 use Rattle.mem.specs.declared.Place.{Place}
 use Rattle.mem.specs.declared.Place.the-variants.{Flash, Ram, Nowhere}
 use Rattle.mem.specs.declared.Loaded.{Loaded}
-use Rattle.mem.specs.Number.{LINE, bytesIn, toBe}
-use Rattle.mem.specs.Place.{RAM-BASE, placeOf, partOf, bytesOf, numberOf, loadOf}
-use Rattle.mem.specs.Store.{put, tagOf, withTag, tagAt, answerAt, ramAfter, tagsAfter}
-use Rattle.mem.proofs.Stores.{length-put, length-withTag}
+use Rattle.num.specs.Number.{LINE, bytesIn, toBe}
+use Rattle.mem.specs.Place.{RAM-BASE, placeOf, partOf, bytesOf, numberOf, loadOf, placeIn}
+use Rattle.store.specs.Store.{put, tagOf, withTag, tagAt, answerAt, ramAfter, tagsAfter}
+use Rattle.store.proofs.Stores.{length-put, length-withTag}
 use Rattle.cap.specs.declared.Cap.{Cap}
 use Rattle.cap.specs.Cap.{permits, EXECUTE, LOAD, LOAD-CAPABILITY}
 use Rattle.line.specs.declared.LoadedCap.{LoadedCap}
@@ -24,10 +24,12 @@ use Rattle.checks.specs.declared.Effect.{Effect}
 use Rattle.checks.specs.declared.Planned.{Planned}
 use Rattle.plan.specs.declared.Operands.{Operands}
 use Rattle.perform.specs.declared.Turn.{Turn}
-use Rattle.perform.specs.declared.Fetched.{Fetched}
-use Rattle.perform.specs.Perform.{placeIn, loadedTurn, storedTurn, capTurn, turnOf, ramOf, tagsOf}
-use Rattle.perform.specs.Fetch.{wordIn, fetchAt, must, fetchOf, wordOf, isPending, plannedOf, doneTurn, doneRam, doneTags}
-use Rattle.state.specs.declared.Machine.{Machine}
+use Rattle.fetch.specs.declared.Fetched.{Fetched}
+use Rattle.perform.specs.Perform.{loadedTurn, storedTurn, capTurn, turnOf, ramOf, tagsOf}
+use Rattle.perform.specs.Act.{plannedOf, doneTurn, doneRam, doneTags}
+use Rattle.fetch.specs.Fetch.{wordIn, fetchAt, must, fetchOf, wordOf}
+use Rattle.core.specs.Registers.{isPending}
+use Rattle.core.specs.declared.Machine.{Machine}
 use Rattle.state.specs.State.{operandsOf}
 use Rattle.state.specs.Steps.{fetchedBy, turnAt, ramAt, tagsAt}
 use Rattle.isolation.specs.Reach.{Memories, lineCap, Held, inPcc, Reads, byLoad, byLoadCapability, byExecute, CanRead, CanLoad}

@@ -10,20 +10,20 @@ use borrow.Author.Tests.{leb-true, ltb-false}
 use lib.Dec.{eqb, leb, ltb}
 use lib.ListN.{length, getD, set, take, drop}
 use lib.Seq.{getD-set-other}
-use Rattle.mem.specs.declared.Address.{Address}
-use Rattle.mem.specs.declared.Size.{Size}
-use Rattle.mem.specs.declared.Size.the-variants.{One, Two, Four, Eight, Line}
+use Rattle.num.specs.declared.Address.{Address}
+use Rattle.num.specs.declared.Size.{Size}
+use Rattle.num.specs.declared.Size.the-variants.{One, Two, Four, Eight, Line}
 use Rattle.mem.specs.declared.Place.{Place}
 use Rattle.mem.specs.declared.Place.the-variants.{Flash, Ram, Nowhere}
 use Rattle.mem.specs.declared.Loaded.{Loaded}
-use Rattle.mem.specs.Number.{LINE, bytesIn, toBe}
-use Rattle.mem.specs.Place.{RAM-BASE, placeOf, partOf, bytesOf, loadOf}
-use Rattle.mem.specs.Store.{put, tagOf, withTag, tagAt, answerAt, ramAfter, tagsAfter}
-use Rattle.mem.proofs.Numbers.{length-toBe}
-use Rattle.mem.proofs.Stores.{put-read, length-put, other-tags-stay}
+use Rattle.num.specs.Number.{LINE, bytesIn, toBe}
+use Rattle.mem.specs.Place.{RAM-BASE, placeOf, partOf, bytesOf, loadOf, placeIn}
+use Rattle.store.specs.Store.{put, tagOf, withTag, tagAt, answerAt, ramAfter, tagsAfter}
+use Rattle.num.proofs.Numbers.{length-toBe}
+use Rattle.store.proofs.Stores.{put-read, length-put, other-tags-stay}
 use Rattle.cap.specs.declared.Cap.{Cap}
 use Rattle.cap.specs.Cap.{permits, STORE, LOAD-CAPABILITY, STORE-CAPABILITY}
-use Rattle.cap.specs.Narrow.{null, incOffset}
+use Rattle.narrow.specs.Narrow.{null, incOffset}
 use Rattle.line.specs.declared.LoadedCap.{LoadedCap}
 use Rattle.line.specs.Line.{encode, decode, fromWords, capIn, loadCap}
 use Rattle.line.proofs.Lines.{length-encode}
@@ -32,13 +32,15 @@ use Rattle.checks.specs.declared.Fault.{Fault}
 use Rattle.checks.specs.declared.Effect.{Effect}
 use Rattle.checks.specs.declared.Planned.{Planned}
 use Rattle.plan.specs.declared.Operands.{Operands}
-use Rattle.perform.specs.declared.Pending.{Pending}
+use Rattle.core.specs.declared.Pending.{Pending}
 use Rattle.perform.specs.declared.Change.{Change}
 use Rattle.perform.specs.declared.Turn.{Turn}
-use Rattle.perform.specs.declared.Fetched.{Fetched}
-use Rattle.perform.specs.Perform.{placeIn, toGeneral, toCapability, quiet, loadedTurn, storedTurn, capTurn, turnOf, ramOf, tagsOf}
-use Rattle.perform.specs.Fetch.{wordOf, isPending, plannedOf, doneTurn, doneRam, doneTags}
-use Rattle.state.specs.declared.Machine.{Machine}
+use Rattle.fetch.specs.declared.Fetched.{Fetched}
+use Rattle.perform.specs.Perform.{toGeneral, toCapability, quiet, loadedTurn, storedTurn, capTurn, turnOf, ramOf, tagsOf}
+use Rattle.perform.specs.Act.{plannedOf, doneTurn, doneRam, doneTags}
+use Rattle.fetch.specs.Fetch.{wordOf}
+use Rattle.core.specs.Registers.{isPending}
+use Rattle.core.specs.declared.Machine.{Machine}
 use Rattle.state.specs.State.{capability, operandsOf, nextPcc, commit}
 use Rattle.state.specs.Steps.{fetchedBy, turnAt, ramAt, tagsAt}
 use Rattle.isolation.specs.Reach.{Memories, Covers, Spans, lineAddress, lineCap, Held, inRegister, inPcc, inPending, Writes, byStore, byStoreCapability, CanLoad, CanWrite}

@@ -8,14 +8,14 @@ use native.Mathlib.Omega.{arith}
 use borrow.Author.Tests.{eqb-true, leb-true}
 use lib.Dec.{eqb, leb}
 use lib.IntN.{ℤ, pos, negsuc}
-use Rattle.mem.specs.declared.Address.{Address}
-use Rattle.mem.specs.declared.Offset.{Offset}
-use Rattle.mem.specs.declared.Size.{Size}
-use Rattle.mem.specs.declared.Size.the-variants.{Line}
-use Rattle.mem.specs.Number.{LINE, bytesIn}
+use Rattle.num.specs.declared.Address.{Address}
+use Rattle.num.specs.declared.Offset.{Offset}
+use Rattle.num.specs.declared.Size.{Size}
+use Rattle.num.specs.declared.Size.the-variants.{Line}
+use Rattle.num.specs.Number.{LINE, bytesIn}
 use Rattle.cap.specs.declared.Cap.{Cap}
 use Rattle.cap.specs.Cap.{permits, EXECUTE, LOAD, STORE, LOAD-CAPABILITY, STORE-CAPABILITY}
-use Rattle.cap.specs.Narrow.{null, andPerms, incBase, incOffset, setOffset, setLength, fromPtr, sealedBy, unsealedBy}
+use Rattle.narrow.specs.Narrow.{null, andPerms, incBase, incOffset, setOffset, setLength, fromPtr, sealedBy, unsealedBy}
 use Rattle.access.specs.declared.Access.{Access}
 use Rattle.access.specs.Access as Test
 use Rattle.access.specs.Access.{accessOf, placedAt, placedFrom, sumOf}
@@ -26,14 +26,17 @@ use Rattle.checks.specs.declared.Effect.{Effect}
 use Rattle.checks.specs.declared.Planned.{Planned}
 use Rattle.checks.specs.declared.Named.{Named}
 use Rattle.checks.specs.Checks.{Checked, ok, fail, guard, fork, settle}
-use Rattle.derive.specs.Derive.{isZero, cGetPCC, cAndPerm, cClearTag, cIncBase, cSetLen, cSetOffset, cIncOffset, cFromPtr, cSeal, cUnseal}
-use Rattle.inspect.specs.Inspect.{get, cGetCause, cSetCause, cToPtr, cCheckPerm, cCheckType, cPtrCmp}
-use Rattle.jump.specs.Jump.{branch, branchTag, branchTo, cJR, cJALR, cCall, cReturn}
+use Rattle.derive.specs.Derive.{isZero, cGetPCC, cAndPerm, cClearTag, cIncBase, cSetLen, cSetOffset, cIncOffset, cFromPtr}
+use Rattle.seal.specs.Seal.{cSeal, cUnseal}
+use Rattle.inspect.specs.Inspect.{get, cGetCause, cSetCause, cToPtr, cCheckPerm, cCheckType}
+use Rattle.compare.specs.Compare.{cPtrCmp}
+use Rattle.jump.specs.Jump.{cJR, cJALR, cCall, cReturn}
+use Rattle.branch.specs.Branch.{branch, branchTag, branchTo}
 use Rattle.transfer.specs.Transfer.{lies, load, store, cLC, cSC}
 use Rattle.plan.specs.declared.Operands.{Operands}
 use Rattle.plan.specs.Plan.{planOf}
-use Rattle.perform.specs.declared.Fetched.{Fetched}
-use Rattle.perform.specs.Fetch.{plannedOf}
+use Rattle.fetch.specs.declared.Fetched.{Fetched}
+use Rattle.perform.specs.Act.{plannedOf}
 use Rattle.isolation.specs.Reach.{Spans}
 use Rattle.isolation.proofs.Lists.{never}
 use Rattle.isolation.proofs.Ranges.{Fits, Narrows, same-range, narrows-and, narrows-unseal, narrows-seal, narrows-offset, narrows-base}

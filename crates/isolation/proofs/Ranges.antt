@@ -8,10 +8,10 @@ use borrow.Author.Tests.{eqb-true, eq-eqb}
 use lib.Bits.{bitAnd, and-shr, and-step, and-le-l}
 use lib.Pow.{shr-shr, shr-le}
 use lib.Dec.{eqb}
-use Rattle.mem.specs.Number.{plusMod, minusMod}
+use Rattle.num.specs.Number.{plusMod, minusMod}
 use Rattle.cap.specs.declared.Cap.{Cap}
 use Rattle.cap.specs.Cap.{permitted, GLOBAL}
-use Rattle.cap.specs.Narrow.{andPerms, andGlobal, incBase, incOffset, sealedBy, unsealedBy}
+use Rattle.narrow.specs.Narrow.{andPerms, andGlobal, incBase, incOffset, sealedBy, unsealedBy}
 use Rattle.isolation.specs.Reach.{Covers, Spans}
 use Rattle.isolation.specs.Agree.{Inside}
 

@@ -8,17 +8,17 @@ use native.Mathlib.Decide.{decLt}
 use borrow.Author.Tests.{eqb-true, eq-eqb, ltb-true, ltb-false, not-true}
 use lib.Dec.{eqb, ltb}
 use lib.ListN.{length, getD, take, drop, List·getD-eq-default}
-use Rattle.mem.specs.Number.{LINE}
-use Rattle.mem.specs.Store.{tagOf}
+use Rattle.num.specs.Number.{LINE}
+use Rattle.store.specs.Store.{tagOf}
 use Rattle.cap.specs.declared.Cap.{Cap}
-use Rattle.cap.specs.Narrow.{null}
+use Rattle.narrow.specs.Narrow.{null}
 use Rattle.line.specs.declared.LoadedCap.{LoadedCap}
 use Rattle.line.specs.Line.{word, decode, fromWords, capIn}
-use Rattle.perform.specs.declared.Pending.{Pending}
+use Rattle.core.specs.declared.Pending.{Pending}
 use Rattle.accept.specs.declared.Verdict.{Verdict}
 use Rattle.accept.specs.Accept.{topFits, jumpFits, loadedFits, widthFits, jumpWidth, verdictOf}
 use Rattle.accept.proofs.Accepted.{both-true, whole-lines, few-lines, cap-top, pcc-top, jump-top, cap-width, pcc-width, jump-width, line-top, bytes-32, loaded-top}
-use Rattle.state.specs.declared.Machine.{Machine}
+use Rattle.core.specs.declared.Machine.{Machine}
 use Rattle.state.specs.State.{capability}
 use Rattle.isolation.specs.Reach.{Memories, lineCap, Held, inRegister, inPcc, inPending}
 use Rattle.isolation.specs.Claims.{Accepted}

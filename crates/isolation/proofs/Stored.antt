@@ -6,9 +6,9 @@ use mathlib.Core.List.{List, _++_, append-assoc}
 use native.Mathlib.Omega.{arith}
 use lib.ListN.{length, take, drop, length-append}
 use lib.Seq.{take-at, drop-at, take-all}
-use Rattle.mem.specs.Number.{be, toBe, plusMod}
-use Rattle.mem.specs.Store.{bit}
-use Rattle.mem.proofs.Numbers.{length-toBe, be-toBe}
+use Rattle.num.specs.Number.{be, toBe, plusMod}
+use Rattle.store.specs.Store.{bit}
+use Rattle.num.proofs.Numbers.{length-toBe, be-toBe}
 use Rattle.cap.specs.declared.Cap.{Cap}
 use Rattle.line.specs.Line.{firstWord, encode, word, fromWords, decode}
 use Rattle.isolation.specs.Agree.{Inside}

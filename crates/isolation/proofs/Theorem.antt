@@ -5,8 +5,8 @@ use mathlib.Core.Bool.{Bool, true, false}
 use mathlib.Core.List.{List}
 use native.Mathlib.Omega.{arith}
 use lib.ListN.{length, getD}
-use Rattle.mem.specs.Number.{LINE}
-use Rattle.mem.specs.Store.{tagOf}
+use Rattle.num.specs.Number.{LINE}
+use Rattle.store.specs.Store.{tagOf}
 use Rattle.cap.specs.declared.Cap.{Cap}
 use Rattle.cap.specs.Cap.{permits, LOAD-CAPABILITY}
 use Rattle.checks.specs.declared.Fault.{Fault}
@@ -15,10 +15,10 @@ use Rattle.perform.specs.declared.Turn.{Turn}
 use Rattle.perform.specs.declared.Turn.the-variants.{Next, Stops}
 use Rattle.accept.specs.declared.Verdict.{Verdict}
 use Rattle.accept.specs.Accept.{verdictOf}
-use Rattle.state.specs.declared.Machine.{Machine}
+use Rattle.core.specs.declared.Machine.{Machine}
 use Rattle.state.specs.State.{commit, stoppedAt, endedWith}
 use Rattle.state.specs.Steps.{Result, turnAt, ramAt, tagsAt, runFrom}
-use Rattle.machine.specs.Run.{judged, runOf}
+use Rattle.state.specs.Run.{judged, runOf}
 use Rattle.isolation.specs.Reach.{Memories, lineCap, Held, inRegister, inPcc, inPending, Reach, held, line, CanLoad}
 use Rattle.isolation.specs.Agree.{Agree, Alike, Under, Kept, left}
 use Rattle.isolation.specs.Claims.{ran, Accepted, Confined, SameReach, NoGrowth, NothingOutside}

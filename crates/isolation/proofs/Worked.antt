@@ -10,14 +10,14 @@ use lib.Dec.{eqb}
 use borrow.Author.Tests.{eqb-true}
 use lib.ListN.{length, getD, set, replicate, getD-replicate, length-replicate, List·getD-eq-default}
 use lib.Seq.{getD-set-same, getD-set-other}
-use Rattle.mem.specs.Number.{LINE, be, toBe}
+use Rattle.num.specs.Number.{LINE, be, toBe}
 use Rattle.mem.specs.Place.{RAM-BASE, placeOf, bytesOf}
-use Rattle.mem.specs.Store.{tagOf}
+use Rattle.store.specs.Store.{tagOf}
 use Rattle.cap.specs.declared.Cap.{Cap}
 use Rattle.cap.specs.Cap.{permitted, permits, LOAD-CAPABILITY}
-use Rattle.cap.specs.Narrow.{null}
+use Rattle.narrow.specs.Narrow.{null}
 use Rattle.line.specs.Line.{word, fromWords, decode, capIn, loadCap}
-use Rattle.perform.specs.declared.Pending.{Pending}
+use Rattle.core.specs.declared.Pending.{Pending}
 use Rattle.accept.specs.Accept.{every, verdictOf}
 use Rattle.isolation.specs.Reach.{Memories, Covers, Spans, lineAddress, Held, inRegister, inPcc, inPending, Reach, held, line, byLoad, CanRead, CanLoad}
 use Rattle.isolation.specs.Agree.{Agree}

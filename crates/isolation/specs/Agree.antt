@@ -3,9 +3,9 @@ use Prim.Native.Nat.{ℕ, _+_, _<_}
 use mathlib.Core.Path.{_≡_}
 use mathlib.Core.Bool.{true}
 use lib.ListN.{length, getD}
-use Rattle.mem.specs.Number.{LINE}
+use Rattle.num.specs.Number.{LINE}
 use Rattle.mem.specs.Place.{RAM-BASE}
-use Rattle.mem.specs.Store.{tagOf}
+use Rattle.store.specs.Store.{tagOf}
 use Rattle.cap.specs.declared.Cap.{Cap}
 use Rattle.cap.specs.Cap.{permits}
 use Rattle.state.specs.Steps.{Result}

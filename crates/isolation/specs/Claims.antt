@@ -6,9 +6,9 @@ use lib.ListN.{length, getD}
 use Rattle.cap.specs.declared.Cap.{Cap}
 use Rattle.accept.specs.declared.Verdict.{Verdict}
 use Rattle.accept.specs.Accept.{verdictOf}
-use Rattle.state.specs.declared.Machine.{Machine}
+use Rattle.core.specs.declared.Machine.{Machine}
 use Rattle.state.specs.Steps.{Result}
-use Rattle.machine.specs.Run.{runOf}
+use Rattle.state.specs.Run.{runOf}
 use Rattle.isolation.specs.Reach.{Memories, Reach}
 use Rattle.isolation.specs.Agree.{Agree, Alike, Under, Kept, left}
 

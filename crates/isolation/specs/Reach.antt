@@ -4,14 +4,14 @@ use mathlib.Core.Path.{_≡_}
 use mathlib.Core.Bool.{true}
 use mathlib.Core.List.{List}
 use lib.ListN.{take, drop}
-use Rattle.mem.specs.Number.{LINE}
+use Rattle.num.specs.Number.{LINE}
 use Rattle.mem.specs.Place.{RAM-BASE}
-use Rattle.mem.specs.Store.{tagOf}
+use Rattle.store.specs.Store.{tagOf}
 use Rattle.cap.specs.declared.Cap.{Cap}
 use Rattle.cap.specs.Cap.{permits, EXECUTE, LOAD, STORE, LOAD-CAPABILITY, STORE-CAPABILITY}
 use Rattle.line.specs.Line.{decode}
-use Rattle.perform.specs.declared.Pending.{Pending}
-use Rattle.state.specs.declared.Machine.{Machine}
+use Rattle.core.specs.declared.Pending.{Pending}
+use Rattle.core.specs.declared.Machine.{Machine}
 use Rattle.state.specs.State.{capability}
 
 -- the memories that a caller lends

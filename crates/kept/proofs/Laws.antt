@@ -8,27 +8,27 @@ use borrow.Author.Tests.{eqb-true, eq-eqb, ltb-true, ltb-false}
 use lib.ListN.{length, take, drop, getD, length-take, List·getD-eq-default}
 use lib.Dec.{eqb, ltb}
 use lib.Seq.{getD-drop, getD-take}
-use Rattle.mem.specs.declared.Address.{Address}
+use Rattle.num.specs.declared.Address.{Address}
 use Rattle.mem.specs.declared.Place.{Place}
 use Rattle.mem.specs.declared.Place.the-variants.{Flash, Ram, Nowhere}
-use Rattle.mem.specs.Number.{LINE, Bytes}
-use Rattle.mem.specs.Place.{tagsFit, partOf, bytesOf}
-use Rattle.mem.specs.Store.{put, withTag, tagAt, answerAt, ramAfter, tagsAfter}
+use Rattle.num.specs.Number.{LINE, Bytes}
+use Rattle.mem.specs.Place.{tagsFit, partOf, bytesOf, placeIn}
+use Rattle.store.specs.Store.{put, withTag, tagAt, answerAt, ramAfter, tagsAfter}
 use Rattle.mem.proofs.Places.{ram-holds}
-use Rattle.mem.proofs.Stores.{put-read, length-put, tag-is-set}
+use Rattle.store.proofs.Stores.{put-read, length-put, tag-is-set}
 use Rattle.cap.specs.declared.Cap.{Cap}
 use Rattle.cap.specs.Cap.{Within}
-use Rattle.cap.specs.Narrow.{null}
+use Rattle.narrow.specs.Narrow.{null}
 use Rattle.line.specs.declared.LoadedCap.{LoadedCap}
 use Rattle.line.specs.Line.{encode, fromWords, decode, capIn, loadCap}
 use Rattle.line.proofs.Lines.{cap-is-kept, bits-are-kept, length-encode}
 use Rattle.checks.specs.declared.Fault.{Fault}
 use Rattle.checks.specs.declared.Effect.{Effect}
-use Rattle.perform.specs.declared.Pending.{Pending}
+use Rattle.core.specs.declared.Pending.{Pending}
 use Rattle.perform.specs.declared.Change.{Change}
 use Rattle.perform.specs.declared.Turn.{Turn}
-use Rattle.perform.specs.Perform.{toCapability, placeIn, storedTurn, capTurn, turnOf, ramOf, tagsOf}
-use Rattle.state.specs.declared.Machine.{Machine}
+use Rattle.perform.specs.Perform.{toCapability, storedTurn, capTurn, turnOf, ramOf, tagsOf}
+use Rattle.core.specs.declared.Machine.{Machine}
 use Rattle.state.specs.State.{operandsOf}
 use Rattle.state.specs.Steps.{turnAt, ramAt, tagsAt}
 use Rattle.kept.specs.Kept.{Plans, StoredAndLoaded, LoadedAndStored}

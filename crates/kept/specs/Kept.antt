@@ -4,20 +4,22 @@ use mathlib.Core.Path.{_≡_}
 use mathlib.Core.Bool.{true}
 use mathlib.Core.List.{List}
 use lib.ListN.{length}
-use Rattle.mem.specs.declared.Address.{Address}
-use Rattle.mem.specs.Number.{Bytes}
-use Rattle.mem.specs.Place.{tagsFit, bytesOf}
-use Rattle.mem.specs.Store.{tagAt}
+use Rattle.num.specs.declared.Address.{Address}
+use Rattle.num.specs.Number.{Bytes}
+use Rattle.mem.specs.Place.{tagsFit, bytesOf, placeIn}
+use Rattle.store.specs.Store.{tagAt}
 use Rattle.cap.specs.declared.Cap.{Cap}
 use Rattle.cap.specs.Cap.{Within}
 use Rattle.checks.specs.declared.Effect.{Effect}
 use Rattle.checks.specs.declared.Planned.{Planned}
-use Rattle.perform.specs.declared.Pending.{Pending}
+use Rattle.core.specs.declared.Pending.{Pending}
 use Rattle.perform.specs.declared.Change.{Change}
 use Rattle.perform.specs.declared.Turn.{Turn}
-use Rattle.perform.specs.Perform.{toCapability, placeIn}
-use Rattle.perform.specs.Fetch.{wordOf, isPending, plannedOf}
-use Rattle.state.specs.declared.Machine.{Machine}
+use Rattle.perform.specs.Perform.{toCapability}
+use Rattle.perform.specs.Act.{plannedOf}
+use Rattle.fetch.specs.Fetch.{wordOf}
+use Rattle.core.specs.Registers.{isPending}
+use Rattle.core.specs.declared.Machine.{Machine}
 use Rattle.state.specs.State.{operandsOf}
 use Rattle.state.specs.Steps.{fetchedBy, turnAt, ramAt, tagsAt}
 

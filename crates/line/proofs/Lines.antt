@@ -10,10 +10,10 @@ use borrow.Author.Tests.{ltb-true, ltb-false}
 use lib.Pow.{shr-shr}
 use lib.ListN.{length, getD, take, drop, length-append, length-take, length-drop, take-append-drop, drop-of-length-le, List·getD-eq-default}
 use lib.Seq.{take-at, drop-at, drop-drop, take-length, drop-length, take-all, length-take-le, getD-drop, getD-take}
-use Rattle.mem.specs.Number.{Bytes, be, toBe, plusMod, minusMod}
-use Rattle.mem.specs.Store.{bit, put}
-use Rattle.mem.proofs.Numbers.{length-toBe, be-toBe, toBe-be, be-lt}
-use Rattle.mem.proofs.Stores.{put-next}
+use Rattle.num.specs.Number.{Bytes, be, toBe, plusMod, minusMod}
+use Rattle.store.specs.Store.{bit, put}
+use Rattle.num.proofs.Numbers.{length-toBe, be-toBe, toBe-be, be-lt}
+use Rattle.store.proofs.Stores.{put-next}
 use Rattle.cap.specs.declared.Cap.{Cap}
 use Rattle.cap.specs.Cap.{Within}
 use Rattle.line.specs.Claims.{CapIsKept, BitsAreKept}

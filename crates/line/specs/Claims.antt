@@ -4,7 +4,7 @@ use mathlib.Core.Path.{_≡_}
 use mathlib.Core.Bool.{Bool}
 use mathlib.Core.List.{List}
 use lib.ListN.{length}
-use Rattle.mem.specs.Number.{Bytes}
+use Rattle.num.specs.Number.{Bytes}
 use Rattle.cap.specs.declared.Cap.{Cap}
 use Rattle.cap.specs.Cap.{Within}
 use Rattle.line.specs.Line.{encode, decode}

@@ -4,10 +4,10 @@ use mathlib.Core.List.{List, _++_}
 use mathlib.Core.Bool.{Bool, cond}
 use lib.ListN.{length, take, drop}
 use lib.Dec.{eqb}
-use Rattle.mem.specs.Number.{be, toBe, addressAt, offsetTo}
+use Rattle.num.specs.Number.{be, toBe, addressAt, offsetTo}
 use Rattle.mem.specs.Place.{placeOf, bytesOf}
-use Rattle.mem.specs.Store.{bit, tagAt}
-use Rattle.mem.specs.declared.Address.{Address}
+use Rattle.store.specs.Store.{bit, tagAt}
+use Rattle.num.specs.declared.Address.{Address}
 use Rattle.cap.specs.declared.Cap.{Cap}
 use Rattle.line.specs.declared.LoadedCap.{LoadedCap}
 

@@ -1,9 +1,9 @@
 // The machine runs: it judges its start, makes its steps, and is its definition for every input.
 use accept::Verdict;
-use state::Machine;
+use core::Machine;
 use state::Outcome;
 ghost use mathlib.Core.Path.{_≡_};
-ghost use Rattle.machine.specs.Run.{runOf};
+ghost use Rattle.state.specs.Run.{runOf};
 
 // A run: the start is judged first, and a refused one comes back as it came.
 pub fn run(m: Machine, flash: &[u8], ram: &mut [u8], tags: &mut [u8], budget: u32) -> Outcome
@@ -14,7 +14,7 @@ pub fn run(m: Machine, flash: &[u8], ram: &mut [u8], tags: &mut [u8], budget: u3
     let first = m.general[0];
     let verdict = accept::accept(m.caps, m.pcc, m.pending, first, flash.len(), ram, tags);
     match verdict {
-        Verdict::Refused(refusal) => state::placeless(accept::refusal_number(refusal), 0, m),
+        Verdict::Refused(refusal) => ending::placeless(accept::refusal_number(refusal), 0, m),
         Verdict::Accepted => steps::go(m, flash, ram, tags, budget),
     }
 }

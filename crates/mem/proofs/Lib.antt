@@ -1,4 +1,1 @@
-pub mod Calls
-pub mod Numbers
 pub mod Places
-pub mod Stores

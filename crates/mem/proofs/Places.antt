@@ -6,7 +6,7 @@ use native.Mathlib.Omega.{arith}
 use borrow.Author.Tests.{leb-true}
 use lib.Dec.{leb, ltb}
 use Rattle.mem.specs.Place.{RAM-BASE, placeOf}
-use Rattle.mem.specs.declared.Address.{Address}
+use Rattle.num.specs.declared.Address.{Address}
 use Rattle.mem.specs.declared.Place.{Place}
 use Rattle.mem.specs.declared.Place.the-variants.{Flash, Ram, Nowhere}
 

@@ -1,4 +1,1 @@
-pub mod Number
 pub mod Place
-pub mod Store
-pub mod Claims

@@ -4,8 +4,8 @@ use mathlib.Core.List.{List, []}
 use mathlib.Core.Bool.{Bool, cond, _&&_}
 use lib.ListN.{length, take, drop}
 use lib.Dec.{leb, ltb, eqb}
-use Rattle.mem.specs.Number.{LINE, be}
-use Rattle.mem.specs.declared.Address.{Address}
+use Rattle.num.specs.Number.{LINE, be}
+use Rattle.num.specs.declared.Address.{Address}
 use Rattle.mem.specs.declared.Place.{Place}
 use Rattle.mem.specs.declared.Place.the-variants.{Flash, Ram, Nowhere}
 use Rattle.mem.specs.declared.Loaded.{Loaded}
@@ -46,3 +46,7 @@ numberOf size part = cond (eqb (length part) size) (Loaded.Value (be part % 2 ^ 
 
 abbrev pub loadOf : List ℕ → List ℕ → Address → ℕ → Loaded
 loadOf flash ram a size = numberOf size (bytesOf flash ram a size)
+
+-- where an access of so many bytes lies
+abbrev pub placeIn : List ℕ → List ℕ → Address → ℕ → Place
+placeIn flash ram a size = placeOf (length flash) (length ram) a size

@@ -6,16 +6,17 @@ use mathlib.Core.List.{List}
 use native.Mathlib.Omega.{arith}
 use Rattle.mem.specs.declared.Place.{Place}
 use Rattle.mem.specs.declared.Place.the-variants.{Flash, Ram, Nowhere}
-use Rattle.mem.specs.Number.{bytesIn}
-use Rattle.mem.specs.Store.{answerAt, ramAfter, tagsAfter}
+use Rattle.num.specs.Number.{bytesIn}
+use Rattle.store.specs.Store.{answerAt, ramAfter, tagsAfter}
 use Rattle.cap.specs.declared.Cap.{Cap}
 use Rattle.checks.specs.declared.Fault.{Fault}
 use Rattle.checks.specs.declared.Effect.{Effect}
 use Rattle.checks.specs.declared.Planned.{Planned}
 use Rattle.plan.specs.declared.Operands.{Operands}
 use Rattle.perform.specs.declared.Turn.{Turn}
-use Rattle.perform.specs.Perform.{placeIn, storedTurn, turnOf, ramOf, tagsOf}
-use Rattle.perform.specs.Fetch.{doneTurn, doneRam, doneTags}
+use Rattle.perform.specs.Perform.{storedTurn, turnOf, ramOf, tagsOf}
+use Rattle.mem.specs.Place.{placeIn}
+use Rattle.perform.specs.Act.{doneTurn, doneRam, doneTags}
 
 -- a store that did not go into RAM
 place-keeps : (p : Place) (c0 : Cap) (cause : ℕ) (f : Fault) (ram bytes tags : List ℕ) (tag : Bool) → storedTurn c0 cause (answerAt p) ≡ Turn.Stops f

@@ -1,2 +1,2 @@
 pub mod Perform
-pub mod Fetch
+pub mod Act

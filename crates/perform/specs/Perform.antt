@@ -1,22 +1,19 @@
 -- An effect carried out: what the step writes, and what it leaves in RAM and tags. The place is found before a byte is written.
 use Prim.Native.Nat.{ℕ}
-use mathlib.Core.Bool.{Bool, cond, false}
+use mathlib.Core.Bool.{Bool, false}
 use mathlib.Core.List.{List}
-use lib.ListN.{length}
-use Rattle.mem.specs.declared.Address.{Address}
-use Rattle.mem.specs.declared.Size.{Size}
-use Rattle.mem.specs.declared.Place.{Place}
+use Rattle.num.specs.declared.Size.{Size}
 use Rattle.mem.specs.declared.Loaded.{Loaded}
-use Rattle.mem.specs.declared.Stored.{Stored}
-use Rattle.mem.specs.Number.{bytesIn, toBe, signExtend}
-use Rattle.mem.specs.Place.{placeOf, loadOf}
-use Rattle.mem.specs.Store.{answerAt, ramAfter, tagsAfter}
+use Rattle.store.specs.declared.Stored.{Stored}
+use Rattle.num.specs.Number.{bytesIn, toBe, extended}
+use Rattle.mem.specs.Place.{loadOf, placeIn}
+use Rattle.store.specs.Store.{answerAt, ramAfter, tagsAfter}
 use Rattle.cap.specs.declared.Cap.{Cap}
 use Rattle.line.specs.declared.LoadedCap.{LoadedCap}
 use Rattle.line.specs.Line.{encode, loadCap}
 use Rattle.checks.specs.declared.Fault.{Fault}
 use Rattle.checks.specs.declared.Effect.{Effect}
-use Rattle.perform.specs.declared.Pending.{Pending}
+use Rattle.core.specs.declared.Pending.{Pending}
 use Rattle.perform.specs.declared.Change.{Change}
 use Rattle.perform.specs.declared.Turn.{Turn}
 
@@ -31,9 +28,6 @@ toCapability cause cd c jump = record { rd = 0; value = 0; cd = cd; cap = c; cau
 abbrev pub quiet : Cap → ℕ → Change
 quiet c0 cause = toGeneral c0 cause 0 0
 
-abbrev pub extended : Bool → Size → ℕ → ℕ
-extended signed size v = cond signed (signExtend (bytesIn size) v) v
-
 abbrev pub loadedTurn : Cap → ℕ → Bool → Size → ℕ → Loaded → Turn
 loadedTurn c0 cause signed size rd (Loaded.Value v) = Turn.Next (toGeneral c0 cause rd (extended signed size v))
 loadedTurn c0 cause signed size rd Loaded.Nowhere = Turn.Stops Fault.Nowhere
@@ -46,10 +40,6 @@ storedTurn c0 cause Stored.Nowhere = Turn.Stops Fault.Nowhere
 abbrev pub capTurn : ℕ → ℕ → LoadedCap → Turn
 capTurn cause cd (LoadedCap.Value c) = Turn.Next (toCapability cause cd c Pending.Quiet)
 capTurn cause cd LoadedCap.Nowhere = Turn.Stops Fault.Nowhere
-
--- where an access of so many bytes lies
-abbrev pub placeIn : List ℕ → List ℕ → Address → ℕ → Place
-placeIn flash ram a size = placeOf (length flash) (length ram) a size
 
 unfoldable pub turnOf : Cap → ℕ → List ℕ → List ℕ → List ℕ → Effect → Turn
 turnOf c0 cause flash ram tags Effect.Nothing = Turn.Next (quiet c0 cause)

@@ -1,32 +1,18 @@
 // Where memory is touched by a whole step: a word fetched through PCC, and an instruction carried out.
-use access::Access;
 use cap::Cap;
 use checks::Effect;
 use checks::Fault;
-use checks::LENGTH;
-use checks::NO_REGISTER;
 use checks::Planned;
-use checks::SEAL;
-use checks::TAG;
+use core::Pending;
+use fetch::Fetched;
 use line::LoadedCap;
-use mem::Address;
 use mem::Loaded;
-use mem::Size;
-use mem::Stored;
+use num::Size;
 use plan::Operands;
+use store::Stored;
 ghost use mathlib.Core.Path.{_≡_};
-ghost use mathlib.Core.Bool.{Bool, cond};
-ghost use mathlib.Core.List.{List};
-ghost use Prim.Native.Nat.{ℕ};
-ghost use lib.ListN.{length};
-ghost use Rattle.perform.specs.Perform.{quiet, toGeneral, toCapability, extended, loadedTurn, storedTurn, capTurn, turnOf, ramOf, tagsOf};
-ghost use Rattle.perform.specs.Fetch.{wordIn, fetchOf, isPending, wordOf, actTurn, actRam, actTags};
-
-// A jump that takes effect after the next instruction, or none.
-pub enum Pending {
-    Quiet,
-    Jump(Cap),
-}
+ghost use Rattle.perform.specs.Perform.{toGeneral, toCapability, loadedTurn, storedTurn, capTurn, turnOf, ramOf, tagsOf};
+ghost use Rattle.perform.specs.Act.{actTurn, actRam, actTags};
 
 // What a step writes; register 0 and C0 as it was stand for none.
 pub struct Change {
@@ -40,11 +26,6 @@ pub struct Change {
 
 pub enum Turn {
     Next(Change),
-    Stops(Fault),
-}
-
-pub enum Fetched {
-    Word(u32),
     Stops(Fault),
 }
 
@@ -74,18 +55,11 @@ fn writes_capability(cause: u16, cd: u8, c: Cap, jump: Pending) -> Turn
     })
 }
 
-// A loaded value, with its top bit carried on where the load is signed.
-pub fn extend(signed: bool, size: Size, v: u64) -> u64
-    ensures { λ r. ⌜ r ≡ extended signed size v ⌝ }
-{
-    if signed { mem::sign_extend(v, size) } else { v }
-}
-
 fn after_load(c0: Cap, cause: u16, signed: bool, size: Size, rd: u8, loaded: Loaded) -> Turn
     ensures { λ r. ⌜ r ≡ loadedTurn c0 cause signed size rd loaded ⌝ }
 {
     match loaded {
-        Loaded::Value(v) => writes_general(c0, cause, rd, extend(signed, size, v)),
+        Loaded::Value(v) => writes_general(c0, cause, rd, num::extend(signed, size, v)),
         Loaded::Nowhere => Turn::Stops(Fault::Nowhere),
     }
 }
@@ -136,64 +110,15 @@ fn carry_out(
             after_store(
                 c0,
                 cause,
-                mem::store(flash.len(), ram, tags, at, size, value),
+                store::store(flash.len(), ram, tags, at, size, value),
             )
         }
         Effect::LoadCapability(at, cd) => {
             after_load_capability(cause, cd, line::load(flash, ram, tags, at))
         }
         Effect::StoreCapability(at, c) => {
-            after_store(c0, cause, line::store(flash.len(), ram, tags, at, c))
+            after_store(c0, cause, capstore::store(flash.len(), ram, tags, at, c))
         }
-    }
-}
-
-fn word_in(loaded: Loaded) -> Fetched
-    ensures { λ r. ⌜ r ≡ wordIn loaded ⌝ }
-{
-    match loaded {
-        Loaded::Value(v) => Fetched::Word((v % 0x1_0000_0000) as u32),
-        Loaded::Nowhere => Fetched::Stops(Fault::Nowhere),
-    }
-}
-
-// The word at PCC, or why there is none.
-pub fn fetch<'a>(flash: &'a [u8], ram: &'a [u8], pcc: Cap) -> Fetched
-    ensures { λ r. ⌜ r ≡ fetchOf (now (flash .entry)) (now (ram .entry)) pcc ⌝ }
-{
-    if !pcc.tag {
-        return Fetched::Stops(Fault::Raise(TAG, NO_REGISTER));
-    }
-    if pcc.sealed {
-        return Fetched::Stops(Fault::Raise(SEAL, NO_REGISTER));
-    }
-    if !cap::permits(pcc.perms, cap::EXECUTE) {
-        return Fetched::Stops(Fault::Raise(0x11, NO_REGISTER));
-    }
-    let lies = access::test(pcc, 0, 0, Size::Four);
-    match lies {
-        Access::At(a) => word_in(mem::load(flash, ram, a, Size::Four)),
-        Access::Length => Fetched::Stops(Fault::Raise(LENGTH, NO_REGISTER)),
-        Access::Misaligned => Fetched::Stops(Fault::Misaligned),
-    }
-}
-
-// The word that was fetched; 0 where there is none.
-pub fn word_of(fetched: Fetched) -> u32
-    ensures { λ r. ⌜ r ≡ wordOf fetched ⌝ }
-{
-    match fetched {
-        Fetched::Word(w) => w,
-        Fetched::Stops(_) => 0,
-    }
-}
-
-pub fn is_pending(pending: Pending) -> bool
-    ensures { λ r. ⌜ r ≡ isPending pending ⌝ }
-{
-    match pending {
-        Pending::Quiet => false,
-        Pending::Jump(_) => true,
     }
 }
 
@@ -216,7 +141,7 @@ pub fn act(
             if checks::both(slot, isa::is_jump_word(w)) {
                 return Turn::Stops(Fault::Pending);
             }
-            let planned = plan::plan(o, isa::decode(w));
+            let planned = plan::plan(o, decode::decode(w));
             let c0 = o.c0.cap;
             match planned {
                 Planned::Fails(f) => Turn::Stops(f),

@@ -1,111 +1,41 @@
 -- The laws of the plain instructions: a law for each kind that another function answers for. Assumes nothing.
-use Prim.Native.Nat.{ℕ, _+_, _-_, _%_, _^_, _≤_, _<_}
-use mathlib.Core.Path.{_≡_, refl, sym, _∙_, ap}
-use mathlib.Core.Bool.{Bool, true, false, cond, not, _&&_}
+use Prim.Native.Nat.{ℕ}
+use mathlib.Core.Path.{_≡_, refl, _∙_}
+use mathlib.Core.Bool.{Bool, true, false, cond, _&&_}
 use mathlib.Core.List.{List}
 use native.Mathlib.Omega.{arith}
-use borrow.Author.Tests.{ltb-true, ltb-false}
-use lib.Dec.{eqb, ltb}
-use Rattle.mem.specs.declared.Address.{Address}
-use Rattle.mem.specs.declared.Size.{Size}
+use lib.Dec.{eqb}
+use Rattle.num.specs.declared.Address.{Address}
+use Rattle.num.specs.declared.Size.{Size}
 use Rattle.mem.specs.declared.Loaded.{Loaded}
-use Rattle.mem.specs.declared.Stored.{Stored}
+use Rattle.store.specs.declared.Stored.{Stored}
 use Rattle.mem.specs.declared.Place.{Place}
 use Rattle.mem.specs.declared.Place.the-variants.{Flash, Ram, Nowhere}
-use Rattle.mem.specs.Number.{bytesIn, toBe}
-use Rattle.mem.specs.Place.{loadOf}
-use Rattle.mem.specs.Store.{answerAt, ramAfter, tagsAfter}
+use Rattle.num.specs.Number.{bytesIn, toBe}
+use Rattle.mem.specs.Place.{loadOf, placeIn}
+use Rattle.store.specs.Store.{answerAt, ramAfter, tagsAfter}
 use Rattle.cap.specs.declared.Cap.{Cap}
 use Rattle.access.specs.declared.Access.{Access}
-use Rattle.cap.specs.Cap.{LOAD, STORE, permits}
-use Rattle.access.specs.Access.{sumOf, aligned, placedAt, placedFrom, accessOf}
-use Rattle.access.proofs.Sums.{net-at, up-up, up-down, fitting, sum-in, answer}
+use Rattle.cap.specs.Cap.{LOAD, STORE}
 use Rattle.checks.specs.declared.Named.{Named}
 use Rattle.checks.specs.declared.Fault.{Fault}
 use Rattle.checks.specs.declared.Effect.{Effect}
 use Rattle.checks.specs.declared.Planned.{Planned}
-use Rattle.checks.specs.Checks.{Checked, settle, opened, tagged, unsealed, granted}
+use Rattle.checks.specs.Checks.{settle}
 use Rattle.transfer.specs.Transfer.{lies, load, store}
 use Rattle.isa.specs.declared.Instr.{Instr}
 use Rattle.isa.specs.Decode.{decodeWord, isJumpWord}
-use Rattle.jump.specs.Jump.{wanted, branch}
+use Rattle.branch.specs.Branch.{wanted, branch}
 use Rattle.plan.specs.declared.Operands.{Operands}
 use Rattle.plan.specs.Plan.{planOf}
 use Rattle.perform.specs.declared.Change.{Change}
 use Rattle.perform.specs.declared.Turn.{Turn}
-use Rattle.perform.specs.declared.Fetched.{Fetched}
-use Rattle.perform.specs.Perform.{toGeneral, placeIn, turnOf, ramOf, tagsOf}
-use Rattle.perform.specs.Fetch.{plannedOf, doneTurn}
-use Rattle.plain.specs.declared.Plain.{Plain}
-use Rattle.plain.specs.Plain.{aheadOf, Lands, Reaches, Reached, Does, Untouched, Sees, Means, extendedIn, loadedAt, storedAt, storesRam, storesTags, setsLoaded, setsStored, branchesBy}
-
-pub planned-at : (r : Access) (register : ℕ) (misaligned : Fault) (effect : Address → Effect) (a : Address) → r ≡ Access.At a → settle (lies r register misaligned effect) ≡ Planned.Does (effect a)
-unfolding settle
-planned-at r register misaligned effect a q = rw q
-
-nowhere : (A : Type 0) (a : Address) → Access.Length ≡ Access.At a → A
-nowhere A a q = let z : _≡_ {A = ℕ} 0 1 = cc in absurd (omega arith)
-
--- an access that its checks let pass, planned
-pub planned-reached : (permission : ℕ) (pcc : Cap) (cb : Named) (rt x size : ℕ) (r : Access) (a : Address) (misaligned : Fault) (effect : Address → Effect) → Reaches permission pcc cb rt x size r → r ≡ Access.At a
-    → settle (opened pcc (cb .number) (tagged cb (unsealed cb (granted permission cb (lies (accessOf (cb .cap) rt x size) (cb .number) misaligned effect))))) ≡ Planned.Does (effect a)
-planned-reached permission pcc cb rt x size r a misaligned effect t q = t .passes a q _ ∙ planned-at _ (cb .number) misaligned effect a (t .lands a q)
-
-no-check : (A : Type 0) → false ≡ true → A
-no-check A q = let z : _≡_ {A = ℕ} 0 1 = cc in absurd (omega arith)
-
-pub two : (a b : Bool) → (a && b) ≡ true → (a ≡ true) × (b ≡ true)
-two true true e = (refl, refl)
-two true false e = no-check _ e
-two false b e = no-check _ e
-
--- nothing is large
-pub all-near : (b f r o : ℕ) (p q s : Bool) → p ≡ (ltb b (2 ^ 62) && ltb f (2 ^ 62)) → q ≡ (ltb r (2 ^ 62) && ltb o (2 ^ 62)) → s ≡ (p && q) → s ≡ true → (b < 2 ^ 62) × (f < 2 ^ 62) × (r < 2 ^ 62) × (o < 2 ^ 62)
-all-near b f r o p q s ep eq es e = let t = two p q (sym es ∙ e) in let x = two (ltb b (2 ^ 62)) (ltb f (2 ^ 62)) (sym ep ∙ t .0) in let y = two (ltb r (2 ^ 62)) (ltb o (2 ^ 62)) (sym eq ∙ t .1) in
-    (ltb-true b (2 ^ 62) (x .0), ltb-true f (2 ^ 62) (x .1), ltb-true r (2 ^ 62) (y .0), ltb-true o (2 ^ 62) (y .1))
-
-pub few : (s : Size) → bytesIn s ≤ 32
-few Size.One = omega arith
-few Size.Two = omega arith
-few Size.Four = omega arith
-few Size.Eight = omega arith
-few Size.Line = omega arith
-
--- the exact sum, where nothing in it is large
-sums-up : (b n s offset rt x o : ℕ) → offset < 2 ^ 62 → rt < 2 ^ 62 → x < 2 ^ 63 → o ≡ ((offset + rt) % 2 ^ 64 + x) % 2 ^ 64 → placedAt b n o s ≡ placedFrom b n (sumOf offset rt x) s
-sums-up b n s offset rt x o ho hr hx q = sum-in b n s o _ (net-at (offset + (rt + x)) 0 o (omega arith) (omega arith) (omega arith) ∙ up-up offset rt x (omega arith) hx)
-
-sums-down : (b n s offset rt x o : ℕ) → offset < 2 ^ 62 → rt < 2 ^ 62 → 2 ^ 63 ≤ x → x < 2 ^ 64 → o ≡ ((offset + rt) % 2 ^ 64 + x) % 2 ^ 64 → o < 2 ^ 62 → placedAt b n o s ≡ placedFrom b n (sumOf offset rt x) s
-sums-down b n s offset rt x o ho hr hx fx q h = sum-in b n s o _ (net-at (offset + rt) (2 ^ 64 - 1 - x + 1) o (omega arith) (omega arith) (omega arith) ∙ up-down offset rt x (omega arith) hx fx)
-
-sums : (b n s offset rt x o : ℕ) (t : Bool) → ltb x (2 ^ 63) ≡ t → offset < 2 ^ 62 → rt < 2 ^ 62 → x < 2 ^ 64 → o ≡ ((offset + rt) % 2 ^ 64 + x) % 2 ^ 64 → o < 2 ^ 62 → placedAt b n o s ≡ placedFrom b n (sumOf offset rt x) s
-sums b n s offset rt x o true e ho hr fx q h = sums-up b n s offset rt x o ho hr (ltb-true x (2 ^ 63) e) q
-sums b n s offset rt x o false e ho hr fx q h = sums-down b n s offset rt x o ho hr (ltb-false x (2 ^ 63) e) fx q h
-
-pub near-lands : (c : Cap) (rt x o : ℕ) (size : Size) (a : Address) → c .base .0 < 2 ^ 62 → c .offset .0 < 2 ^ 62 → rt < 2 ^ 62 → x < 2 ^ 64 → o ≡ ((c .offset .0 + rt) % 2 ^ 64 + x) % 2 ^ 64 → o < 2 ^ 62
-    → o + bytesIn size ≤ c .length → a ≡ record { 0 = c .base .0 + o } → true ≡ aligned (a .0) (bytesIn size) → Lands (accessOf c rt x (bytesIn size)) (Access.At a)
-unfolding accessOf
-near-lands c rt x o size a hb ho hr fx q h fits at aligns = λ a′ e. sym (let k = few size in fitting _ _ o (bytesIn size) {x = Access.At a} fits (omega arith) (answer a _ (bytesIn size) true (ap (λ (y : Address). y .0) at) aligns) ∙ sums _ _ _ _ rt x o _ refl ho hr fx q h) ∙ e
-
--- every check before it passed
-all-pass : (opens tag sealed permit : Bool) → (opens && ((tag && not sealed) && permit)) ≡ true → (opens ≡ true) × (tag ≡ true) × (sealed ≡ false) × (permit ≡ true)
-all-pass true true false true e = (refl, refl, refl, refl)
-all-pass true true false false e = no-check _ e
-all-pass true true true permit e = no-check _ e
-all-pass true false sealed permit e = no-check _ e
-all-pass false tag sealed permit e = no-check _ e
-
-pub reaches : (permission : ℕ) (opens : Bool) (c : Cap) (rt x size : ℕ) (r : Access) → (opens && ((c .tag && not (c .sealed)) && permits c permission)) ≡ true → Lands (accessOf c rt x size) r → Reached permission opens c rt x size r
-unfolding settle
-reaches permission opens c rt x size r e l = λ pcc number h. let p = all-pass opens (c .tag) (c .sealed) (permits c permission) e in
-    record { lands = l; passes = λ a q rest. rw (← h, p .0, p .1, p .2, p .3) }
-
--- a check failed: the answer says nothing
-pub lands-not : (lies : Access) → Lands lies Access.Length
-lands-not lies = λ a q. nowhere _ a q
-
-pub reaches-not : (permission : ℕ) (opens : Bool) (c : Cap) (rt x size : ℕ) → Reached permission opens c rt x size Access.Length
-reaches-not permission opens c rt x size = λ pcc number h. record { lands = lands-not _; passes = λ a q. nowhere _ a q }
+use Rattle.fetch.specs.declared.Fetched.{Fetched}
+use Rattle.perform.specs.Perform.{toGeneral, turnOf, ramOf, tagsOf}
+use Rattle.perform.specs.Act.{plannedOf, doneTurn}
+use Rattle.plain.specs.Plain.{aheadOf, Does, Sees, Means, setsLoaded, setsStored, branchesBy}
+use Rattle.data.specs.Data.{Reaches, extendedIn, loadedAt, storedAt, storesRam, storesTags}
+use Rattle.data.proofs.Reaches.{planned-reached}
 
 module _ (o : Operands) (planned : Planned) (flash ram tags : List ℕ) where
   -- a load that its checks let pass, and what an answer made of the loaded value may say of it

@@ -7,9 +7,12 @@ use Rattle.checks.specs.declared.Effect.{Effect}
 use Rattle.checks.specs.declared.Fault.{Fault}
 use Rattle.checks.specs.Checks.{Checked, ok, fail}
 use Rattle.compute.specs.Compute.{computeOf}
-use Rattle.derive.specs.Derive.{cGetPCC, cAndPerm, cClearTag, cIncBase, cSetLen, cSetOffset, cIncOffset, cFromPtr, cSeal, cUnseal}
-use Rattle.inspect.specs.Inspect.{get, cGetCause, cSetCause, cToPtr, cCheckPerm, cCheckType, cPtrCmp}
-use Rattle.jump.specs.Jump.{branch, branchTag, cJR, cJALR, cCall, cReturn}
+use Rattle.derive.specs.Derive.{cGetPCC, cAndPerm, cClearTag, cIncBase, cSetLen, cSetOffset, cIncOffset, cFromPtr}
+use Rattle.seal.specs.Seal.{cSeal, cUnseal}
+use Rattle.inspect.specs.Inspect.{get, cGetCause, cSetCause, cToPtr, cCheckPerm, cCheckType}
+use Rattle.compare.specs.Compare.{cPtrCmp}
+use Rattle.jump.specs.Jump.{cJR, cJALR, cCall, cReturn}
+use Rattle.branch.specs.Branch.{branch, branchTag}
 use Rattle.transfer.specs.Transfer.{load, store, cLC, cSC}
 use Rattle.plan.specs.declared.Operands.{Operands}
 

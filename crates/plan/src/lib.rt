@@ -43,7 +43,7 @@ pub fn plan(o: Operands, i: Instr) -> Planned
         Instr::Compute(op) => sets(o.n15, compute::compute(op, o.g25, o.g20)),
         Instr::ComputeImmediate(op, x) => sets(o.n20, compute::compute(op, o.g25, x)),
         Instr::Lui(x) => sets(o.n20, x),
-        Instr::Branch(equal, x) => jump::plan_branch(equal, x, o.pcc, o.g25, o.g20),
+        Instr::Branch(equal, x) => branch::plan_branch(equal, x, o.pcc, o.g25, o.g20),
         Instr::Load(size, signed, x) => transfer::plan_load(
             size,
             signed,
@@ -70,15 +70,15 @@ pub fn plan(o: Operands, i: Instr) -> Planned
         Instr::IncOffset => derive::inc_offset(o.pcc, o.n20, o.c15, o.g10),
         Instr::FromPtr => derive::from_ptr(o.pcc, o.n20, o.c15, o.g10),
         Instr::ToPtr => inspect::to_ptr(o.pcc, o.n20, o.c15, o.c10),
-        Instr::Seal => derive::seal(o.pcc, o.n20, o.c15, o.c10),
-        Instr::Unseal => derive::unseal(o.pcc, o.n20, o.c15, o.c10),
+        Instr::Seal => seal::seal(o.pcc, o.n20, o.c15, o.c10),
+        Instr::Unseal => seal::unseal(o.pcc, o.n20, o.c15, o.c10),
         Instr::CheckPerm => inspect::check_perm(o.pcc, o.c20, o.g15),
         Instr::CheckType => inspect::check_type(o.pcc, o.c20, o.c15),
         Instr::Jr => jump::cjr(o.pcc, o.c20),
         Instr::Jalr => jump::cjalr(o.pcc, o.n20, o.c15),
-        Instr::BranchTag(set, x) => jump::branch_tag(set, x, o.pcc, o.c20),
+        Instr::BranchTag(set, x) => branch::branch_tag(set, x, o.pcc, o.c20),
         Instr::Call => jump::ccall(o.n20),
         Instr::Return => jump::creturn(),
-        Instr::PtrCompare(kind) => inspect::ptr_compare(kind, o.pcc, o.n20, o.c15, o.c10),
+        Instr::PtrCompare(kind) => compare::ptr_compare(kind, o.pcc, o.n20, o.c15, o.c10),
     }
 }

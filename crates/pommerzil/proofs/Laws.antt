@@ -5,14 +5,15 @@ use mathlib.Core.List.{List, [], _∷_, _++_}
 use native.Mathlib.Omega.{arith}
 use borrow.Author.Tests.{le-leb}
 use lib.ListN.{length, drop, set}
-use Rattle.state.specs.declared.Machine.{Machine}
+use Rattle.core.specs.declared.Machine.{Machine}
 use Rattle.book.specs.declared.Verdict.{Verdict}
 use Rattle.enter.specs.Enter.{judged, readBook, verdictNumber}
 use Rattle.write.specs.declared.Written.{Written}
-use Rattle.bench.specs.declared.Answer.{Answer}
-use Rattle.bench.specs.Bench.{bookRun}
-use Rattle.pommerzil.specs.Registers.{REGISTERS, registersOf}
-use Rattle.pommerzil.specs.Exported.{ANSWER-NUMBERS, over, numbersOf, runInto, readInto, codeOf, bytesOf}
+use Rattle.answer.specs.declared.Answer.{Answer}
+use Rattle.answer.specs.Answer.{bookRun}
+use Rattle.taking.specs.Registers.{REGISTERS, registersOf}
+use Rattle.pommerzil.specs.Exported.{ANSWER-NUMBERS, over, numbersOf, runInto, readInto}
+use Rattle.taking.specs.Taking.{codeOf, bytesOf}
 
 -- five numbers at the front of a buffer, one after the other
 pub five-set : (l : List ℕ) (a b c d e : ℕ) → 5 ≤ length l → set (set (set (set (set l 0 a) 1 b) 2 c) 3 d) 4 e ≡ (a ∷ b ∷ c ∷ d ∷ e ∷ []) ++ drop 5 l

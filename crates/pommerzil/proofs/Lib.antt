@@ -1,4 +1,2 @@
 pub mod Laws
 pub mod Registers
-pub mod Given
-pub mod Taken

@@ -4,16 +4,16 @@ use mathlib.Core.Path.{_≡_, refl, sym, _∙_, ap}
 use mathlib.Core.List.{List, [], _∷_}
 use native.Mathlib.Omega.{arith}
 use lib.ListN.{length}
-use Rattle.mem.specs.Number.{toBe}
-use Rattle.mem.specs.Store.{put}
-use Rattle.mem.proofs.Stores.{put-fits}
+use Rattle.num.specs.Number.{toBe}
+use Rattle.store.specs.Store.{put}
+use Rattle.store.proofs.Stores.{put-fits}
 use Rattle.compose.specs.Compose.{recordOf, capBody}
 use Rattle.compose.proofs.Fields.{cap-bytes}
-use Rattle.state.specs.declared.Machine.{Machine}
+use Rattle.core.specs.declared.Machine.{Machine}
 use Rattle.write.specs.Run.{Runs}
 use Rattle.write.specs.Write.{pieces}
 use Rattle.write.proofs.Pieces.{run-next, runs-put, runs-on}
-use Rattle.pommerzil.specs.Registers.{capRecords, generalRecords, registersOf, REGISTERS}
+use Rattle.taking.specs.Registers.{capRecords, generalRecords, registersOf, REGISTERS}
 use Rattle.pommerzil.specs.Exported.{over}
 
 -- one record more, behind those that are there

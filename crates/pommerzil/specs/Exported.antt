@@ -4,16 +4,12 @@ use mathlib.Core.Bool.{cond}
 use mathlib.Core.List.{List, [], _∷_, _++_}
 use lib.ListN.{length, drop}
 use lib.Dec.{leb}
-use Rattle.state.specs.declared.Machine.{Machine}
 use Rattle.record.specs.declared.Refusal.{Refusal}
 use Rattle.record.specs.Record.{refusalNumber}
-use Rattle.book.specs.declared.Verdict.{Verdict}
 use Rattle.enter.specs.Enter.{judged, readBook, verdictNumber}
-use Rattle.write.specs.declared.Written.{Written}
-use Rattle.write.specs.Write.{Result, refused, writeBook}
-use Rattle.bench.specs.declared.Answer.{Answer}
-use Rattle.bench.specs.Bench.{Benched, bookRun}
-use Rattle.pommerzil.specs.Registers.{REGISTERS, registersOf}
+use Rattle.answer.specs.declared.Answer.{Answer}
+use Rattle.answer.specs.Answer.{Benched, bookRun}
+use Rattle.taking.specs.Registers.{REGISTERS, registersOf}
 
 -- 36: what is to be written is longer than the buffer
 abbrev pub NO-ROOM : ℕ
@@ -64,20 +60,3 @@ readInto book flash ram tags registers =
       registers = over (registersOf (readBook book flash ram tags .machine)) registers;
     })
     (record { code = NO-ROOM; ram = ram; tags = tags; registers = registers })
-
--- the registers are read as a book for no flash and no RAM, which has no line; only where they are accepted is there a machine to write
-abbrev pub writtenBy : Verdict → Machine → List ℕ → List ℕ → List ℕ → Result
-writtenBy Verdict.Accepted m ram tags book = writeBook m ram tags book
-writtenBy (Verdict.Refused refusal) m ram tags book = refused refusal book
-
-unfoldable pub writeFrom : List ℕ → List ℕ → List ℕ → List ℕ → Result
-writeFrom registers ram tags book = writtenBy (judged registers 0 0 0) (readBook registers 0 [] [] .machine) ram tags book
-
--- pommerzil_write returns 0 or the refusal, and says how many bytes it wrote
-abbrev pub codeOf : Written → ℕ
-codeOf (Written.Book bytes) = 0
-codeOf (Written.Refused refusal) = refusalNumber refusal
-
-abbrev pub bytesOf : Written → ℕ
-bytesOf (Written.Book bytes) = bytes
-bytesOf (Written.Refused refusal) = 0

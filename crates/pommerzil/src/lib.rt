@@ -1,20 +1,18 @@
 // The model as a static library for C: numbers and lent buffers in, 01's number out. include/pommerzil.h is its header.
-use bench::Answer;
-use book::Verdict;
+use answer::Answer;
 use cap::Cap;
 use compose::CAP_RECORD;
 use compose::GENERAL_RECORD;
+use core::Machine;
 use record::PCC;
 use record::Refusal;
-use state::Machine;
-use write::Written;
 ghost use mathlib.Core.Path.{_≡_};
 ghost use Prim.Native.Nat.{_≤_};
 ghost use lib.ListN.{length};
 ghost use Rattle.write.specs.Run.{Runs};
-ghost use Rattle.pommerzil.specs.Registers.{capRecords, generalRecords, registersOf};
-ghost use Rattle.pommerzil.specs.Claims.{HandedOutIsTaken};
-ghost use Rattle.pommerzil.specs.Exported.{over, numbersOf, runInto, readInto, writeFrom, codeOf, bytesOf};
+ghost use Rattle.taking.specs.Registers.{capRecords, generalRecords, registersOf};
+ghost use Rattle.pommerzil.specs.Exported.{over, numbersOf, runInto, readInto};
+ghost use Rattle.taking.specs.Taking.{writeFrom, codeOf, bytesOf};
 
 // The numbers of an answer: stop or refusal, cause code, register, place, steps.
 const ANSWER_NUMBERS: usize = 5;
@@ -55,7 +53,7 @@ pub extern "C" fn pommerzil_run(
     if answer.len() < ANSWER_NUMBERS {
         return record::refusal_number(Refusal::Room);
     }
-    let a = bench::run_book(book, flash, ram, tags, budget);
+    let a = answer::run_book(book, flash, ram, tags, budget);
     put_answer(a, answer);
     a.stop
 }
@@ -92,7 +90,7 @@ fn put_registers(m: Machine, out: &mut [u8])
     let caps = m.caps;
     let pcc = m.pcc;
     let general = m.general;
-    mem::put_be(out, 0, 1, 1);
+    store::put_be(out, 0, 1, 1);
     put_caps(caps, out);
     compose::put_cap(out, PCC_RECORD, PCC, pcc);
     put_generals(general, out);
@@ -122,42 +120,6 @@ pub extern "C" fn pommerzil_read(
     enter::verdict_number(verdict)
 }
 
-// The registers read, as a book for no memory, and the book of that machine, RAM and tags written.
-fn write_from(registers: &[u8], ram: &[u8], tags: &[u8], book: &mut [u8]) -> Written
-    ensures { λ r. ⌜ r ≡ writeFrom (now (registers .entry)) (now (ram .entry)) (now (tags .entry)) (now (book .entry)) .written ⌝ }
-    ensures { λ _. ⌜ now (book .exit) ≡ writeFrom (now (registers .entry)) (now (ram .entry)) (now (tags .entry)) (now (book .entry)) .out ⌝ }
-{
-    let mut no_ram: [u8; 0] = [0; 0];
-    let mut no_tags: [u8; 0] = [0; 0];
-    let started = enter::read_book(registers, 0, &mut no_ram, &mut no_tags);
-    let verdict = started.verdict;
-    match verdict {
-        Verdict::Refused(refusal) => Written::Refused(refusal),
-        Verdict::Accepted => {
-            let m = started.machine;
-            write::write_book(m, ram, tags, book)
-        }
-    }
-}
-
-fn code_of(written: Written) -> u8
-    ensures { λ r. ⌜ r ≡ codeOf written ⌝ }
-{
-    match written {
-        Written::Book(_) => 0,
-        Written::Refused(refusal) => record::refusal_number(refusal),
-    }
-}
-
-fn bytes_of(written: Written) -> usize
-    ensures { λ r. ⌜ r ≡ bytesOf written ⌝ }
-{
-    match written {
-        Written::Book(bytes) => bytes,
-        Written::Refused(_) => 0,
-    }
-}
-
 // Writes a book: 0 or the refusal, the book from byte 0 of `book` on, and in `written` how many bytes it has.
 #[no_mangle]
 pub extern "C" fn pommerzil_write(
@@ -171,12 +133,7 @@ pub extern "C" fn pommerzil_write(
     ensures book { λ _. ⌜ now (book .exit) ≡ writeFrom (now (registers .entry)) (now (ram .entry)) (now (tags .entry)) (now (book .entry)) .out ⌝ }
     ensures written { λ _. ⌜ now (written .exit) ≡ bytesOf (writeFrom (now (registers .entry)) (now (ram .entry)) (now (tags .entry)) (now (book .entry)) .written) ⌝ }
 {
-    let answer = write_from(registers, ram, tags, book);
-    *written = bytes_of(answer);
-    code_of(answer)
+    let answer = taking::write_from(registers, ram, tags, book);
+    *written = taking::bytes_of(answer);
+    taking::code_of(answer)
 }
-
-// What is handed out, is taken.
-pub fn claims()
-    ensures handed_out_is_taken { λ _. ⌜ HandedOutIsTaken ⌝ }
-{}

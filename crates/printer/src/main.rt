@@ -1,6 +1,6 @@
 // Prints the bench's line for `start.book` and `flash.bin` of the folder that it runs in: stop or refusal, cause code, register,
 // place, steps (01, "Bench examples").
-use bench::Answer;
+use answer::Answer;
 use bench::BENCH_RAM;
 use bench::BENCH_TAGS;
 use bench::FILE_MOST;

@@ -8,14 +8,14 @@ use lib.Dec.{eqb}
 use lib.ListN.{length, getD, set, take, drop, replicate, length-replicate, getD-replicate}
 use borrow.Author.Tests.{le-leb, eqb-true, eqb-false, ne-eqb, not-true}
 use Rattle.mem.specs.Place.{RAM-BASE, memoryFits, tagsFit}
-use Rattle.mem.specs.Store.{bit, put, tagOf, withTag}
+use Rattle.store.specs.Store.{bit, put, tagOf, withTag}
 use Rattle.cap.specs.declared.Cap.{Cap}
-use Rattle.cap.specs.Narrow.{null}
-use Rattle.perform.specs.declared.Pending.{Pending}
-use Rattle.perform.specs.Fetch.{isPending}
+use Rattle.narrow.specs.Narrow.{null}
+use Rattle.core.specs.declared.Pending.{Pending}
+use Rattle.core.specs.Registers.{isPending}
 use Rattle.accept.specs.declared.Verdict as start
 use Rattle.accept.specs.Accept.{verdictOf}
-use Rattle.state.specs.declared.Machine.{Machine}
+use Rattle.core.specs.declared.Machine.{Machine}
 use Rattle.record.specs.declared.Entry.{Entry}
 use Rattle.record.specs.Record.{headAt}
 use Rattle.book.specs.declared.Step.{Step}

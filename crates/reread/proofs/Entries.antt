@@ -9,13 +9,15 @@ use lib.Dec.{eqb, leb, ltb}
 use lib.ListN.{length, getD, take, drop, length-append}
 use lib.Seq.{drop-at, take-all}
 use borrow.Author.Tests.{le-leb, lt-ltb}
-use Rattle.mem.specs.Store.{bit}
+use Rattle.store.specs.Store.{bit}
 use Rattle.cap.specs.declared.Cap.{Cap}
 use Rattle.cap.specs.Cap.{Within}
 use Rattle.line.specs.Line.{capIn}
 use Rattle.accept.specs.Accept.{topFits, loadedFits}
 use Rattle.record.specs.declared.Entry.{Entry}
-use Rattle.record.specs.Record.{byte, number, isLine, generalOf, capOf, capabilityOf, lineOf, entryOf}
+use Rattle.record.specs.Record.{byte, number}
+use Rattle.entry.specs.Entry.{isLine, generalOf, lineOf, entryOf}
+use Rattle.fields.specs.Fields.{capOf, capabilityOf}
 use Rattle.book.specs.Book.{afterEntry}
 use Rattle.compose.specs.Compose.{fields, capBody, generalBody, lineBody}
 use Rattle.compose.proofs.Fields.{bytesOf, length-fields}

@@ -8,12 +8,12 @@ use lib.Dec.{eqb}
 use borrow.Author.Tests.{eqb-true, not-true}
 use lib.ListN.{length, getD, set, take, drop, replicate, length-append, length-replicate, getD-replicate, length-drop, take-append-drop, drop-of-length-le}
 use lib.Seq.{take-suc, take-add, take-all, take-at, drop-at, drop-cons, drop-drop, set-at, append-snoc, length-take-le, getD-take, getD-drop, ext-getD}
-use Rattle.mem.specs.Number.{toBe}
-use Rattle.mem.specs.Store.{bit, put}
-use Rattle.mem.proofs.Numbers.{length-toBe}
-use Rattle.mem.proofs.Stores.{put-next}
+use Rattle.num.specs.Number.{toBe}
+use Rattle.store.specs.Store.{bit, put}
+use Rattle.num.proofs.Numbers.{length-toBe}
+use Rattle.store.proofs.Stores.{put-next}
 use Rattle.cap.specs.declared.Cap.{Cap}
-use Rattle.cap.specs.Narrow.{null}
+use Rattle.narrow.specs.Narrow.{null}
 use Rattle.compose.specs.Compose.{fields, recordOf, lineBody, zeroCap, zeroBytes}
 use Rattle.compose.proofs.Fields.{length-fields}
 use Rattle.accept.proofs.Accepted.{each, both-true}

@@ -9,12 +9,13 @@ use lib.Dec.{eqb, leb, ltb}
 use lib.ListN.{length, getD, take, drop, length-append}
 use lib.Seq.{take-at, drop-at, drop-drop, getD-append-add}
 use borrow.Author.Tests.{le-ltb, lt-leb, ne-eqb, eq-eqb, lt-ltb, le-leb}
-use Rattle.mem.specs.Number.{be, toBe}
-use Rattle.mem.specs.Store.{bit}
-use Rattle.mem.proofs.Numbers.{length-toBe, be-toBe}
+use Rattle.num.specs.Number.{be, toBe}
+use Rattle.store.specs.Store.{bit}
+use Rattle.num.proofs.Numbers.{length-toBe, be-toBe}
 use Rattle.record.specs.declared.Head.{Head}
 use Rattle.record.specs.declared.Entry.{Entry}
-use Rattle.record.specs.Record.{byte, number, bodyAt, headAt, entryOf}
+use Rattle.record.specs.Record.{byte, number, bodyAt, headAt}
+use Rattle.entry.specs.Entry.{entryOf}
 use Rattle.book.specs.declared.Step.{Step}
 use Rattle.book.specs.Book.{kindOf, keyOf, inOrder, orderedStep, afterEntry, afterHead, stepAt}
 use Rattle.compose.specs.Compose.{fields, recordOf}

@@ -9,16 +9,16 @@ use borrow.Author.Tests.{eqb-true}
 use lib.ListN.{length, getD, take, drop}
 use lib.Seq.{take-at}
 use Rattle.mem.specs.Place.{RAM-BASE}
-use Rattle.mem.specs.Store.{tagOf}
+use Rattle.store.specs.Store.{tagOf}
 use Rattle.cap.specs.declared.Cap.{Cap}
 use Rattle.cap.specs.Cap.{Within}
-use Rattle.cap.specs.Narrow.{null}
+use Rattle.narrow.specs.Narrow.{null}
 use Rattle.accept.specs.declared.Verdict as start
 use Rattle.accept.specs.Accept.{topFits, verdictOf}
-use Rattle.state.specs.declared.Machine.{Machine}
+use Rattle.core.specs.declared.Machine.{Machine}
 use Rattle.record.specs.declared.Refusal.{Refusal}
 use Rattle.record.specs.declared.Entry.{Entry}
-use Rattle.record.proofs.Laws.{within as line-within}
+use Rattle.entry.proofs.Laws.{within as line-within}
 use Rattle.book.specs.declared.Verdict.{Verdict}
 use Rattle.book.specs.Book.{checkBook}
 use Rattle.book.proofs.Walks.{rises, check-start}

@@ -6,8 +6,8 @@ use mathlib.Core.List.{List}
 use lib.ListN.{length, getD, take}
 use Rattle.mem.specs.Place.{memoryFits}
 use Rattle.cap.specs.declared.Cap.{Cap}
-use Rattle.cap.specs.Narrow.{null}
-use Rattle.state.specs.declared.Machine.{Machine}
+use Rattle.narrow.specs.Narrow.{null}
+use Rattle.core.specs.declared.Machine.{Machine}
 use Rattle.book.specs.declared.Verdict.{Verdict}
 use Rattle.book.specs.Book.{checkBook}
 use Rattle.enter.specs.Enter.{judged, readBook}

@@ -4,13 +4,13 @@ use mathlib.Core.Path.{_≡_}
 use mathlib.Core.Bool.{Bool, true}
 use mathlib.Core.List.{List, _++_}
 use lib.ListN.{length}
-use Rattle.mem.specs.Number.{Bytes}
+use Rattle.num.specs.Number.{Bytes}
 use Rattle.cap.specs.declared.Cap.{Cap}
 use Rattle.cap.specs.Cap.{Within}
 use Rattle.line.specs.Line.{capIn}
 use Rattle.accept.specs.Accept.{topFits, loadedFits}
 use Rattle.record.specs.declared.Entry.{Entry}
-use Rattle.record.specs.Record.{isLine}
+use Rattle.entry.specs.Entry.{isLine}
 use Rattle.book.specs.declared.Step.{Step}
 use Rattle.book.specs.Book.{kindOf, keyOf, inOrder, stepAt}
 use Rattle.compose.specs.Compose.{recordOf, capBody, generalBody, lineBody}

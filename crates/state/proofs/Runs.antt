@@ -6,16 +6,18 @@ use mathlib.Core.List.{List}
 use native.Mathlib.Omega.{arith}
 use lib.ListN.{getD, set}
 use Rattle.cap.specs.declared.Cap.{Cap}
-use Rattle.cap.specs.Narrow.{null}
+use Rattle.narrow.specs.Narrow.{null}
 use Rattle.isa.specs.Word.{field25, field20, field15, field10}
 use Rattle.checks.specs.declared.Fault.{Fault}
 use Rattle.plan.specs.declared.Operands.{Operands}
 use Rattle.perform.specs.declared.Change.{Change}
-use Rattle.perform.specs.declared.Fetched.{Fetched}
+use Rattle.fetch.specs.declared.Fetched.{Fetched}
 use Rattle.perform.specs.declared.Turn.{Turn}
-use Rattle.perform.specs.Fetch.{fetchOf, wordOf, isPending, plannedOf, actTurn, actRam, actTags}
+use Rattle.perform.specs.Act.{plannedOf, actTurn, actRam, actTags}
+use Rattle.fetch.specs.Fetch.{fetchOf, wordOf}
+use Rattle.core.specs.Registers.{isPending}
 use Rattle.perform.proofs.Keeps.{stop-keeps}
-use Rattle.state.specs.declared.Machine.{Machine}
+use Rattle.core.specs.declared.Machine.{Machine}
 use Rattle.state.specs.declared.Outcome.{Outcome}
 use Rattle.state.specs.State.{gathered, operandsOf, kept, nextPcc, commit, stoppedAt, endedWith}
 use Rattle.state.specs.Steps.{Result, fetchedBy, turnAt, ramAt, tagsAt, runFrom}

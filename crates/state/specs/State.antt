@@ -5,14 +5,14 @@ use mathlib.Core.List.{List}
 use lib.ListN.{getD, set}
 use lib.Dec.{eqb}
 use Rattle.cap.specs.declared.Cap.{Cap}
-use Rattle.cap.specs.Narrow.{null, incOffset}
+use Rattle.narrow.specs.Narrow.{null, incOffset}
 use Rattle.isa.specs.Word.{field25, field20, field15, field10}
 use Rattle.checks.specs.declared.Fault.{Fault}
 use Rattle.checks.specs.Checks.{stopNumber}
 use Rattle.plan.specs.declared.Operands.{Operands}
-use Rattle.perform.specs.declared.Pending.{Pending}
+use Rattle.core.specs.declared.Pending.{Pending}
 use Rattle.perform.specs.declared.Change.{Change}
-use Rattle.state.specs.declared.Machine.{Machine}
+use Rattle.core.specs.declared.Machine.{Machine}
 use Rattle.state.specs.declared.Outcome.{Outcome}
 
 abbrev pub gathered : ℕ → ℕ → ℕ → ℕ → ℕ → Cap → Cap → Cap → Cap → Cap → Cap → ℕ → Operands

@@ -4,9 +4,11 @@ use mathlib.Core.List.{List}
 use lib.ListN.{length, getD}
 use Rattle.perform.specs.declared.Turn.{Turn}
 use Rattle.perform.specs.declared.Turn.the-variants.{Next, Stops}
-use Rattle.perform.specs.declared.Fetched.{Fetched}
-use Rattle.perform.specs.Fetch.{fetchOf, wordOf, isPending, actTurn, actRam, actTags}
-use Rattle.state.specs.declared.Machine.{Machine}
+use Rattle.fetch.specs.declared.Fetched.{Fetched}
+use Rattle.perform.specs.Act.{actTurn, actRam, actTags}
+use Rattle.fetch.specs.Fetch.{fetchOf, wordOf}
+use Rattle.core.specs.Registers.{isPending}
+use Rattle.core.specs.declared.Machine.{Machine}
 use Rattle.state.specs.declared.Outcome.{Outcome}
 use Rattle.state.specs.State.{operandsOf, commit, stoppedAt, endedWith}
 

@@ -1,6 +1,6 @@
 // The steps of a run, one after the other: by the shorter way as far as it goes, each other one by the whole way.
+use core::Machine;
 use perform::Turn;
-use state::Machine;
 use state::Outcome;
 ghost use mathlib.Core.Path.{_≡_};
 ghost use mathlib.Core.List.{List};
@@ -22,8 +22,8 @@ pub fn go(m: Machine, flash: &[u8], ram: &mut [u8], tags: &mut [u8], budget: u32
     // The shorter way was not tried at this place.
     let mut fresh = true;
     while n < budget {
-        let fetched = perform::fetch(flash, ram, pcc);
-        let w = perform::word_of(fetched);
+        let fetched = fetch::fetch(flash, ram, pcc);
+        let w = fetch::word_of(fetched);
         if checks::both(fresh, glide::is_light(w)) {
             let glided = glide::glide(&mut g, cs, pcc, pending, flash, ram, tags, budget - n);
             n = n + glided.steps;
@@ -56,10 +56,10 @@ pub fn go(m: Machine, flash: &[u8], ram: &mut [u8], tags: &mut [u8], budget: u32
             pcc,
             cause,
         );
-        let turn = perform::act(o, perform::is_pending(pending), fetched, flash, ram, tags);
+        let turn = perform::act(o, core::is_pending(pending), fetched, flash, ram, tags);
         match turn {
             Turn::Stops(f) => {
-                return state::stopped(f, n, g, cs, pcc, pending, cause);
+                return ending::stopped(f, n, g, cs, pcc, pending, cause);
             }
             Turn::Next(d) => {
                 let rd = (d.rd % 32) as usize;
@@ -76,5 +76,5 @@ pub fn go(m: Machine, flash: &[u8], ram: &mut [u8], tags: &mut [u8], budget: u32
             }
         }
     }
-    state::finished(n, g, cs, pcc, pending, cause)
+    ending::finished(n, g, cs, pcc, pending, cause)
 }

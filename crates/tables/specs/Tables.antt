@@ -4,12 +4,12 @@ use mathlib.Core.Bool.{cond}
 use mathlib.Core.List.{List, []}
 use lib.ListN.{length, getD, take, drop, set, replicate}
 use lib.Dec.{eqb, leb, ltb}
-use Rattle.mem.specs.Number.{be}
-use Rattle.mem.specs.Store.{put}
+use Rattle.num.specs.Number.{be}
+use Rattle.store.specs.Store.{put}
 use Rattle.cap.specs.declared.Cap.{Cap}
-use Rattle.cap.specs.Narrow.{null}
-use Rattle.perform.specs.declared.Pending.{Pending}
-use Rattle.state.specs.declared.Machine.{Machine}
+use Rattle.narrow.specs.Narrow.{null}
+use Rattle.core.specs.declared.Pending.{Pending}
+use Rattle.core.specs.declared.Machine.{Machine}
 
 abbrev pub byteAt : List ℕ → ℕ → ℕ
 byteAt s at = getD s at 0

@@ -3,8 +3,8 @@ use Prim.Native.Nat.{_-_, _^_}
 use mathlib.Core.Bool.{true, false}
 use lib.ListN.{replicate}
 use Rattle.cap.specs.declared.Cap.{Cap}
-use Rattle.perform.specs.declared.Pending.{Pending}
-use Rattle.state.specs.declared.Machine.{Machine}
+use Rattle.core.specs.declared.Pending.{Pending}
+use Rattle.core.specs.declared.Machine.{Machine}
 
 abbrev pub whole : Cap
 whole = record

@@ -1,11 +1,11 @@
 // The machine behind a C function, to time its steps: every register holds a capability for all of memory.
 use cap::Cap;
-use mem::Address;
-use mem::Offset;
-use perform::Pending;
-use state::Machine;
+use core::Machine;
+use core::Pending;
+use num::Address;
+use num::Offset;
 ghost use mathlib.Core.Path.{_≡_};
-ghost use Rattle.machine.specs.Run.{runOf};
+ghost use Rattle.state.specs.Run.{runOf};
 ghost use Rattle.timed.specs.Timed.{whole, starting};
 
 // All permissions, from address 0 on.

@@ -3,10 +3,10 @@
 use Prim.Native.Nat.{ℕ}
 use mathlib.Core.Path.{_≡_}
 use mathlib.Core.Bool.{Bool, _||_, not}
-use Rattle.mem.specs.declared.Size.{Size}
-use Rattle.mem.specs.declared.Size.the-variants.{Line}
-use Rattle.mem.specs.declared.Address.{Address}
-use Rattle.mem.specs.Number.{bytesIn}
+use Rattle.num.specs.declared.Size.{Size}
+use Rattle.num.specs.declared.Size.the-variants.{Line}
+use Rattle.num.specs.declared.Address.{Address}
+use Rattle.num.specs.Number.{bytesIn}
 use Rattle.cap.specs.declared.Cap.{Cap}
 use Rattle.access.specs.declared.Access.{Access}
 use Rattle.cap.specs.Cap.{permits, GLOBAL, LOAD, STORE, LOAD-CAPABILITY, STORE-CAPABILITY, STORE-LOCAL}

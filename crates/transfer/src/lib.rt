@@ -7,7 +7,7 @@ use checks::Fault;
 use checks::LENGTH;
 use checks::Named;
 use checks::Planned;
-use mem::Size;
+use num::Size;
 ghost use mathlib.Core.Path.{_≡_};
 ghost use mathlib.Core.Bool.{Bool, _||_, not};
 ghost use Rattle.cap.specs.Cap.{permits, GLOBAL, STORE-LOCAL};

@@ -1,6 +1,6 @@
 // Prints the bench's line of each book and flash of a table. Standard input is a file of the second program's for the bench
 // (`second-cases 1 3000 OUT bench`): of each case a length of 4 bytes and its body, laid out as second/src/generate/format.rs says.
-use bench::Answer;
+use answer::Answer;
 use bench::BENCH_RAM;
 use bench::BENCH_TAGS;
 use libc::STDOUT_FILENO;
@@ -32,25 +32,25 @@ fn print_line(a: Answer) {
 fn with_flash(body: &[u8], flash_at: usize, book: &[u8], flash: &mut [u8]) {
     let mut ram = [0; BENCH_RAM];
     let mut tags = [0; BENCH_TAGS];
-    tables::put_memory(flash, body, flash_at);
+    pieces::put_memory(flash, body, flash_at);
     print_line(bench::bench(book, flash, &mut ram, &mut tags));
 }
 
 fn with_book(body: &[u8], book: &mut [u8], flash: &mut [u8]) {
-    let flash_at = tables::put_memory(book, body, BOOK);
-    let n = tables::size_in(body, flash_at, flash);
+    let flash_at = pieces::put_memory(book, body, BOOK);
+    let n = pieces::size_in(body, flash_at, flash);
     with_flash(body, flash_at, book, &mut flash[..n]);
 }
 
 // The line of the case of this body; its book and its flash each take their size of these spaces.
 fn one_case(body: &[u8], book: &mut [u8], flash: &mut [u8]) {
-    let n = tables::size_in(body, BOOK, book);
+    let n = pieces::size_in(body, BOOK, book);
     with_book(body, &mut book[..n], flash);
 }
 
 fn all_cases(space: &mut [u8], book: &mut [u8], flash: &mut [u8]) {
     for _ in 0..MOST_CASES {
-        let n = tables::next_body(space);
+        let n = pieces::next_body(space);
         if n == 0 {
             return;
         }

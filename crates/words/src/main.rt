@@ -106,10 +106,10 @@ fn sub(i: Instr) -> u64 {
     match i {
         Instr::Compute(a) => operation(a),
         Instr::ComputeImmediate(a, _) => operation(a),
-        Instr::Load(s, _, _) => mem::size_bytes(s) as u64,
-        Instr::Store(s, _) => mem::size_bytes(s) as u64,
-        Instr::LoadByC0(s, _) => mem::size_bytes(s) as u64,
-        Instr::StoreByC0(s, _) => mem::size_bytes(s) as u64,
+        Instr::Load(s, _, _) => num::size_bytes(s) as u64,
+        Instr::Store(s, _) => num::size_bytes(s) as u64,
+        Instr::LoadByC0(s, _) => num::size_bytes(s) as u64,
+        Instr::StoreByC0(s, _) => num::size_bytes(s) as u64,
         Instr::Get(f) => field(f),
         Instr::PtrCompare(k) => kind(k),
         _ => 0,
@@ -149,7 +149,7 @@ fn print(n: u64, end: u8) {
 }
 
 fn print_line(word: u32) {
-    let i = isa::decode(word);
+    let i = decode::decode(word);
     print(word as u64, b' ');
     print(number(i), b' ');
     print(sub(i), b' ');
@@ -161,7 +161,7 @@ fn print_line(word: u32) {
 fn word_at(table: &[u8], i: usize) -> u32
     requires { ⌜ i < length (now table) / 4 ⌝ }
 {
-    (mem::load_be(&table[4 * i..4 * i + 4]) % 0x1_0000_0000) as u32
+    (num::load_be(&table[4 * i..4 * i + 4]) % 0x1_0000_0000) as u32
 }
 
 fn print_lines(table: &[u8]) {

@@ -7,17 +7,17 @@ use native.Mathlib.Omega.{arith}
 use lib.Dec.{eqb, leb, ltb}
 use lib.ListN.{length, getD, take, drop}
 use borrow.Author.Tests.{lt-ltb, le-ltb, leb-true, eqb-true}
-use Rattle.mem.specs.Number.{toBe}
+use Rattle.num.specs.Number.{toBe}
 use Rattle.mem.specs.Place.{memoryFits, tagsFit}
-use Rattle.mem.specs.Store.{put}
-use Rattle.mem.proofs.Stores.{put-fits}
+use Rattle.store.specs.Store.{put}
+use Rattle.store.proofs.Stores.{put-fits}
 use Rattle.cap.specs.declared.Cap.{Cap}
-use Rattle.cap.specs.Narrow.{null}
-use Rattle.perform.specs.declared.Pending.{Pending}
+use Rattle.narrow.specs.Narrow.{null}
+use Rattle.core.specs.declared.Pending.{Pending}
 use Rattle.accept.specs.declared.Refusal as start
 use Rattle.accept.specs.declared.Verdict.{Verdict}
 use Rattle.accept.specs.Accept.{sizesFit, verdictOf}
-use Rattle.state.specs.declared.Machine.{Machine}
+use Rattle.core.specs.declared.Machine.{Machine}
 use Rattle.record.specs.declared.Refusal.{Refusal}
 use Rattle.write.specs.declared.Written.{Written}
 use Rattle.write.specs.Run.{Runs}

@@ -10,8 +10,8 @@ use lib.Dec.{eqb}
 use lib.ListN.{length, take, drop, length-append, length-take, length-drop}
 use lib.Seq.{length-take-le}
 use Rattle.mem.specs.Place.{RAM-BASE}
-use Rattle.mem.specs.Store.{put, tagOf}
-use Rattle.mem.proofs.Stores.{length-put}
+use Rattle.store.specs.Store.{put, tagOf}
+use Rattle.store.proofs.Stores.{length-put}
 use Rattle.cap.specs.declared.Cap.{Cap}
 use Rattle.compose.specs.Compose.{recordOf, capBody, generalBody, lineBody, zeroCap, zeroBytes}
 use Rattle.compose.proofs.Fields.{put-nothing, put-put, cap-bytes, general-bytes, line-bytes}

@@ -5,14 +5,14 @@ use mathlib.Core.List.{List, [], _∷_, _++_}
 use lib.ListN.{length, getD, take, drop}
 use lib.Dec.{eqb, ltb}
 use Rattle.mem.specs.Place.{RAM-BASE}
-use Rattle.mem.specs.Store.{tagOf}
+use Rattle.store.specs.Store.{tagOf}
 use Rattle.cap.specs.declared.Cap.{Cap}
-use Rattle.cap.specs.Narrow.{null}
-use Rattle.perform.specs.Fetch.{isPending}
+use Rattle.narrow.specs.Narrow.{null}
+use Rattle.core.specs.Registers.{isPending}
 use Rattle.accept.specs.declared.Refusal as start
 use Rattle.accept.specs.declared.Verdict.{Verdict}
 use Rattle.accept.specs.Accept.{verdictOf}
-use Rattle.state.specs.declared.Machine.{Machine}
+use Rattle.core.specs.declared.Machine.{Machine}
 use Rattle.record.specs.declared.Refusal.{Refusal}
 use Rattle.compose.specs.Compose.{recordOf, capBody, generalBody, lineBody, zeroCap, zeroBytes}
 use Rattle.write.specs.declared.Written.{Written}

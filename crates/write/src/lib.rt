@@ -4,16 +4,16 @@ use cap::Cap;
 use compose::CAP_RECORD;
 use compose::GENERAL_RECORD;
 use compose::LINE_HEAD;
-use mem::LINE;
+use core::Machine;
 use mem::RAM_BASE;
+use num::LINE;
 use record::PCC;
 use record::Refusal;
-use state::Machine;
 ghost use mathlib.Core.Path.{_≡_};
 ghost use mathlib.Core.List.{List};
 ghost use Prim.Native.Nat.{ℕ, _+_, _*_, _^_, _≤_};
 ghost use lib.ListN.{length};
-ghost use Rattle.mem.specs.Store.{put};
+ghost use Rattle.store.specs.Store.{put};
 ghost use Rattle.write.specs.Run.{Runs};
 ghost use Rattle.write.specs.Write.{capPiece, generalPiece, linePiece, capPieces, generalPieces, linePieces, bookOf, refusalOf, afterStart, writeBook};
 
@@ -81,7 +81,7 @@ fn write_line(ram: &[u8], tags: &[u8], line: usize, out: &mut [u8], at: usize) -
 {
     let start = line * LINE;
     let e = start + LINE;
-    let tag = mem::tag_of(tags, line);
+    let tag = store::tag_of(tags, line);
     if checks::both(!tag, compose::all_zero(&ram[start..e])) {
         return at;
     }
@@ -110,7 +110,7 @@ fn write_all(m: Machine, ram: &[u8], tags: &[u8], out: &mut [u8]) -> usize
     let caps = m.caps;
     let pcc = m.pcc;
     let general = m.general;
-    mem::put_be(out, 0, 1, 1);
+    store::put_be(out, 0, 1, 1);
     let named = write_caps(caps, out, 1);
     let all = write_cap(PCC, pcc, out, named);
     let registers = write_generals(general, out, all);
@@ -135,7 +135,7 @@ fn write_accepted(m: Machine, ram: &[u8], tags: &[u8], out: &mut [u8]) -> Writte
     ensures { λ _. ⌜ now (out .exit) ≡ afterStart m (now (ram .entry)) (now (tags .entry)) (now (out .entry)) .out ⌝ }
 {
     let pending = m.pending;
-    if !checks::both(!perform::is_pending(pending), m.cause == 0) {
+    if !checks::both(!core::is_pending(pending), m.cause == 0) {
         return Written::Refused(Refusal::Waiting);
     }
     let bytes = write_all(m, ram, tags, &mut out[..0]);

@@ -1,4 +1,4 @@
-use Rattle.mem.proofs.Calls.{asks}
+use Rattle.num.proofs.Calls.{asks}
 use borrow.Author.Tests.{not-true, not-false}
 use Rattle.accept.specs.Accept.{verdictOf}
 use Rattle.accept.proofs.accept.Statement.{statement}

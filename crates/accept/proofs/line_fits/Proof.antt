@@ -1,4 +1,4 @@
-use Rattle.mem.proofs.Calls.{asks}
+use Rattle.num.proofs.Calls.{asks}
 use borrow.Author.Needs.{needs}
 use Rattle.accept.proofs.line_fits.Statement.{statement}
 use Rattle.accept.proofs.line_fits.Tie as tie

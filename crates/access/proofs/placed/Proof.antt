@@ -1,11 +1,11 @@
-use Rattle.mem.proofs.Calls.{asks}
+use Rattle.num.proofs.Calls.{asks}
 use Prim.Native.Nat.{_+_, _^_, _≤_}
 use mathlib.Core.Path.{_≡_, sym, _∙_, ap}
 use mathlib.Core.Bool.{Bool, cond}
 use native.Mathlib.Omega.{arith}
 use borrow.Author.Tests.{ltb-true, ltb-false}
-use Rattle.mem.specs.Number.{bytesIn}
-use Rattle.mem.proofs.Numbers.{some-bytes}
+use Rattle.num.specs.Number.{bytesIn}
+use Rattle.num.proofs.Numbers.{some-bytes}
 use Rattle.access.specs.Access.{placedAt}
 use Rattle.access.specs.declared.Access.{Access}
 use Rattle.access.proofs.Sums.{too-long, too-high, fitting, exact, answer}

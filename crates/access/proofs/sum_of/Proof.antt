@@ -1,4 +1,4 @@
-use Rattle.mem.proofs.Calls.{asks}
+use Rattle.num.proofs.Calls.{asks}
 use native.Mathlib.Omega.{arith}
 use mathlib.Core.Path.{_∙_}
 use Rattle.access.proofs.Sums.{up-up, up-down, down-up, down-down, below}

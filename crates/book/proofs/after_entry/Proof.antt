@@ -1,4 +1,4 @@
-use Rattle.mem.proofs.Calls.{asks}
+use Rattle.num.proofs.Calls.{asks}
 use mathlib.Core.Path.{refl}
 use Rattle.record.specs.declared.Entry.{Entry}
 use Rattle.book.specs.Book.{afterEntry}

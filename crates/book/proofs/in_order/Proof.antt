@@ -1,4 +1,4 @@
-use Rattle.mem.proofs.Calls.{asks}
+use Rattle.num.proofs.Calls.{asks}
 use Rattle.book.proofs.Walks.{rises, falls, goes-on, repeats}
 use borrow.Author.Needs.{needs}
 use Rattle.book.proofs.in_order.Statement.{statement}

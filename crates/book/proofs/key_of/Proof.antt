@@ -1,4 +1,4 @@
-use Rattle.mem.proofs.Calls.{asks}
+use Rattle.num.proofs.Calls.{asks}
 use borrow.Author.Needs.{needs}
 use Rattle.book.proofs.key_of.Statement.{statement}
 use Rattle.book.proofs.key_of.Tie as tie

@@ -1,5 +1,5 @@
 use borrow.Author.Needs.{needs}
-use Rattle.mem.proofs.Calls.{asks}
+use Rattle.num.proofs.Calls.{asks}
 use Rattle.checks.specs.Checks.{settle}
 use Rattle.plan.specs.Plan.{planOf}
 use Rattle.capable.proofs.Laws.{load-amounts, store-amounts, clc-amounts, csc-amounts, stores, get-amounts, leads-amount}

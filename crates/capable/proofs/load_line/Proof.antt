@@ -1,5 +1,5 @@
 use borrow.Author.Needs.{needs}
-use Rattle.mem.proofs.Calls.{asks}
+use Rattle.num.proofs.Calls.{asks}
 use Rattle.capable.proofs.load_line.Statement.{statement}
 use Rattle.capable.proofs.load_line.Tie as tie
 

@@ -1,6 +1,6 @@
 use mathlib.Core.Path.{refl}
 use borrow.Author.Needs.{needs}
-use Rattle.mem.proofs.Calls.{asks}
+use Rattle.num.proofs.Calls.{asks}
 use Rattle.capable.proofs.store_line.Statement.{statement}
 use Rattle.capable.proofs.store_line.Tie as tie
 

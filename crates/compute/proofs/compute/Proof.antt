@@ -1,7 +1,7 @@
-use Rattle.mem.proofs.Calls.{asks}
+use Rattle.num.proofs.Calls.{asks}
 use native.Mathlib.Omega.{arith}
-use Rattle.mem.specs.Number.{plusMod}
-use Rattle.mem.proofs.Numbers.{difference}
+use Rattle.num.specs.Number.{plusMod}
+use Rattle.num.proofs.Numbers.{difference}
 use Rattle.compute.specs.Compute.{computeOf}
 use borrow.Author.Needs.{needs}
 use Rattle.compute.proofs.compute.Statement.{statement}

@@ -1,5 +1,5 @@
-use Rattle.mem.proofs.Calls.{asks}
-use Rattle.mem.specs.Number.{plusMod}
+use Rattle.num.proofs.Calls.{asks}
+use Rattle.num.specs.Number.{plusMod}
 use Rattle.compute.specs.Compute.{signedLess}
 use Rattle.compute.proofs.signed_less.Statement.{statement}
 use Rattle.compute.proofs.signed_less.Tie as tie

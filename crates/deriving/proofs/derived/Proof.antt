@@ -1,5 +1,5 @@
 use borrow.Author.Needs.{needs}
-use Rattle.mem.proofs.Calls.{asks}
+use Rattle.num.proofs.Calls.{asks}
 use Rattle.plan.specs.Plan.{planOf}
 use Rattle.deriving.proofs.Laws.{leads, Tests, tested, and-perm, clear-tag, inc-base, set-len, set-offset, inc-offset}
 use Rattle.deriving.proofs.derived.Statement.{statement}

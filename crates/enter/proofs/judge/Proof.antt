@@ -1,4 +1,4 @@
-use Rattle.mem.proofs.Calls.{asks}
+use Rattle.num.proofs.Calls.{asks}
 use Rattle.enter.specs.Enter.{judged}
 use Rattle.enter.proofs.judge.Statement.{statement}
 use Rattle.enter.proofs.judge.Tie as tie

@@ -1,4 +1,4 @@
-use Rattle.mem.proofs.Calls.{asks}
+use Rattle.num.proofs.Calls.{asks}
 use Rattle.enter.proofs.zero_machine.Statement.{statement}
 use Rattle.enter.proofs.zero_machine.Tie as tie
 

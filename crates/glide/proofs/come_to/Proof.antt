@@ -1,4 +1,4 @@
-use Rattle.mem.proofs.Calls.{asks}
+use Rattle.num.proofs.Calls.{asks}
 use Rattle.glide.proofs.come_to.Statement.{statement}
 use Rattle.glide.proofs.come_to.Tie as tie
 

@@ -1,4 +1,4 @@
-use Rattle.mem.proofs.Calls.{asks}
+use Rattle.num.proofs.Calls.{asks}
 use borrow.Author.Tests.{eq-eqb, ne-eqb}
 use Rattle.glide.specs.Glide.{lightWord}
 use Rattle.glide.proofs.is_light.Statement.{statement}

@@ -1,4 +1,4 @@
-use Rattle.mem.proofs.Calls.{asks}
+use Rattle.num.proofs.Calls.{asks}
 use borrow.Author.Needs.{needs}
 use Rattle.glide.proofs.next_at.Statement.{statement}
 use Rattle.glide.proofs.next_at.Tie as tie

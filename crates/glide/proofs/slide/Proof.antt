@@ -4,9 +4,9 @@ use native.Mathlib.Omega.{arith}
 use borrow.Author.Needs.{needs}
 use lib.ListN.{length}
 use denote.Ref.{now}
-use Rattle.mem.proofs.Calls.{asks}
-use Rattle.cap.specs.Narrow.{setOffset}
-use Rattle.perform.specs.declared.Pending.{Pending}
+use Rattle.num.proofs.Calls.{asks}
+use Rattle.narrow.specs.Narrow.{setOffset}
+use Rattle.core.specs.declared.Pending.{Pending}
 use Rattle.glide.specs.Glide.{waitingAt, Glides}
 use Rattle.glide.proofs.Glides.{Tells, Adds, told, added, still, sets, also-sets, puts, jumps, rests, starts, slot-is, next-is, branch-is}
 use Rattle.glide.proofs.slide.Statement.{statement}

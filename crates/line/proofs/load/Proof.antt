@@ -1,4 +1,4 @@
-use Rattle.mem.proofs.Calls.{asks}
+use Rattle.num.proofs.Calls.{asks}
 use Rattle.line.specs.Line.{loadCap}
 use Rattle.line.proofs.load.Statement.{statement}
 use Rattle.line.proofs.load.Tie as tie

@@ -1,4 +1,4 @@
-use Rattle.mem.proofs.Calls.{asks}
+use Rattle.num.proofs.Calls.{asks}
 use mathlib.Core.Path.{_∙_, ap}
 use Rattle.mem.specs.Place.{numberOf}
 use Rattle.mem.proofs.load.Statement.{statement}

@@ -1,4 +1,4 @@
-use Rattle.mem.proofs.Calls.{asks}
+use Rattle.num.proofs.Calls.{asks}
 use borrow.Author.Tests.{lt-ltb, le-ltb}
 use Rattle.mem.specs.Place.{placeOf}
 use Rattle.mem.proofs.place_of.Statement.{statement}

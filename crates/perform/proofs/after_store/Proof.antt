@@ -1,4 +1,4 @@
-use Rattle.mem.proofs.Calls.{asks}
+use Rattle.num.proofs.Calls.{asks}
 use borrow.Author.Needs.{needs}
 use Rattle.perform.proofs.after_store.Statement.{statement}
 use Rattle.perform.proofs.after_store.Tie as tie

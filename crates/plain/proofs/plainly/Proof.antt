@@ -1,4 +1,4 @@
-use Rattle.mem.proofs.Calls.{asks}
+use Rattle.num.proofs.Calls.{asks}
 use mathlib.Core.Path.{refl}
 use Rattle.cap.specs.Cap.{registerOpen}
 use Rattle.checks.specs.Checks.{settle}

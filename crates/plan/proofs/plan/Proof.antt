@@ -1,4 +1,4 @@
-use Rattle.mem.proofs.Calls.{asks}
+use Rattle.num.proofs.Calls.{asks}
 use Rattle.checks.specs.Checks.{settle}
 use Rattle.plan.specs.Plan.{planOf}
 use borrow.Author.Needs.{needs}

@@ -1,5 +1,5 @@
 use mathlib.Core.Path.{refl}
-use Rattle.mem.proofs.Calls.{asks}
+use Rattle.num.proofs.Calls.{asks}
 use borrow.Author.Needs.{needs}
 use borrow.Author.Tests.{lt-leb}
 use Rattle.pommerzil.specs.Exported.{runInto}

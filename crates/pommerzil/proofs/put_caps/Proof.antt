@@ -2,18 +2,18 @@ use Prim.Native.Nat.{ℕ, _+_, _-_, _*_, _≤_}
 use mathlib.Core.Path.{_≡_, sym, subst}
 use mathlib.Core.List.{List}
 use native.Mathlib.Omega.{arith}
-use Rattle.mem.proofs.Calls.{asks}
+use Rattle.num.proofs.Calls.{asks}
 use borrow.Author.Needs.{needs}
 use denote.Ref.{now}
 use lib.ListN.{getD}
 use Rattle.cap.specs.declared.Cap.{Cap}
-use Rattle.cap.specs.Narrow.{null}
+use Rattle.narrow.specs.Narrow.{null}
 use Rattle.compose.specs.Compose.{recordOf, capBody}
 use Rattle.compose.proofs.Fields.{cap-bytes}
 use Rattle.write.specs.Run.{Runs}
 use Rattle.write.specs.Write.{pieces}
 use Rattle.write.proofs.Pieces.{run-begins}
-use Rattle.pommerzil.specs.Registers.{capRecords}
+use Rattle.taking.specs.Registers.{capRecords}
 use Rattle.pommerzil.proofs.Registers.{even-next}
 use Rattle.pommerzil.proofs.put_caps.Statement.{statement}
 use Rattle.pommerzil.proofs.put_caps.Tie as tie

@@ -2,7 +2,7 @@ use Prim.Native.Nat.{ℕ, _+_, _-_, _*_, _≤_}
 use mathlib.Core.Path.{_≡_, sym, subst}
 use mathlib.Core.List.{List}
 use native.Mathlib.Omega.{arith}
-use Rattle.mem.proofs.Calls.{asks}
+use Rattle.num.proofs.Calls.{asks}
 use borrow.Author.Needs.{needs}
 use denote.Ref.{now}
 use lib.ListN.{getD}
@@ -11,7 +11,7 @@ use Rattle.compose.proofs.Fields.{general-bytes}
 use Rattle.write.specs.Run.{Runs}
 use Rattle.write.specs.Write.{pieces}
 use Rattle.write.proofs.Pieces.{run-begins}
-use Rattle.pommerzil.specs.Registers.{generalRecords}
+use Rattle.taking.specs.Registers.{generalRecords}
 use Rattle.pommerzil.proofs.Registers.{even-next}
 use Rattle.pommerzil.proofs.put_generals.Statement.{statement}
 use Rattle.pommerzil.proofs.put_generals.Tie as tie

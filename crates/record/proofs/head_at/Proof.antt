@@ -1,4 +1,4 @@
-use Rattle.mem.proofs.Calls.{asks}
+use Rattle.num.proofs.Calls.{asks}
 use borrow.Author.Tests.{lt-ltb, le-leb, lt-leb}
 use Rattle.record.specs.Record.{headAt}
 use Rattle.record.proofs.Laws.{empty, short, whole}

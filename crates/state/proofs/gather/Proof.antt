@@ -1,4 +1,4 @@
-use Rattle.mem.proofs.Calls.{asks}
+use Rattle.num.proofs.Calls.{asks}
 use Rattle.state.proofs.gather.Statement.{statement}
 use Rattle.state.proofs.gather.Tie as tie
 

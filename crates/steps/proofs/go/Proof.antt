@@ -6,8 +6,8 @@ use native.Mathlib.Omega.{arith}
 use borrow.Author.Needs.{needs}
 use lib.ListN.{length}
 use denote.Ref.{now}
-use Rattle.mem.specs.Store.{bit}
-use Rattle.mem.proofs.Calls.{asks}
+use Rattle.store.specs.Store.{bit}
+use Rattle.num.proofs.Calls.{asks}
 use Rattle.state.specs.Steps.{Result, turnAt, ramAt, tagsAt, runFrom}
 use Rattle.glide.specs.Glide.{holding}
 use Rattle.state.proofs.Runs.{turn-is, ram-is, tags-is, on, off, done, first}

@@ -1,5 +1,5 @@
 use borrow.Author.Needs.{needs}
-use Rattle.mem.proofs.Calls.{asks}
+use Rattle.num.proofs.Calls.{asks}
 use native.Mathlib.Omega.{arith}
 use Rattle.tables.proofs.cap_count.Statement.{statement}
 use Rattle.tables.proofs.cap_count.Tie as tie

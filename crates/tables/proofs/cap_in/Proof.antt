@@ -1,4 +1,4 @@
-use Rattle.mem.proofs.Calls.{asks}
+use Rattle.num.proofs.Calls.{asks}
 use Rattle.tables.specs.Tables.{capIn}
 use Rattle.tables.proofs.cap_in.Statement.{statement}
 use Rattle.tables.proofs.cap_in.Tie as tie

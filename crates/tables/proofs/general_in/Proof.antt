@@ -5,7 +5,7 @@ use mathlib.Core.Logic.{⊎-elim}
 use native.Mathlib.Nat.{sub-zero}
 use borrow.Author.Needs.{needs}
 use denote.Ref.{now}
-use Rattle.mem.proofs.Calls.{asks}
+use Rattle.num.proofs.Calls.{asks}
 use Rattle.tables.specs.Tables.{numberAt, entries, valueEnd, withValue, generalIn}
 use Rattle.tables.proofs.Laws.{entry-more, entry-none, value-set, value-none}
 use Rattle.tables.proofs.general_in.Statement.{statement}

@@ -1,5 +1,5 @@
 use borrow.Author.Needs.{needs}
-use Rattle.mem.proofs.Calls.{asks}
+use Rattle.num.proofs.Calls.{asks}
 use native.Mathlib.Omega.{arith}
 use Rattle.tables.proofs.machine_end.Statement.{statement}
 use Rattle.tables.proofs.machine_end.Tie as tie

@@ -4,7 +4,7 @@ use mathlib.Core.Path.{_≡_, sym, _∙_}
 use native.Mathlib.Nat.{sub-zero}
 use borrow.Author.Needs.{needs}
 use denote.Ref.{now}
-use Rattle.mem.proofs.Calls.{asks}
+use Rattle.num.proofs.Calls.{asks}
 use Rattle.tables.specs.Tables.{entries, capEnd, withCap, machineIn}
 use Rattle.tables.proofs.Laws.{entry-more, entry-none}
 use Rattle.tables.proofs.machine_in.Statement.{statement}

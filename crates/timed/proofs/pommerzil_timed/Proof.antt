@@ -1,5 +1,5 @@
 use mathlib.Core.Path.{ap}
-use Rattle.mem.proofs.Calls.{asks}
+use Rattle.num.proofs.Calls.{asks}
 use borrow.Author.Needs.{needs}
 use Rattle.state.specs.declared.Outcome.{Outcome}
 use Rattle.timed.proofs.pommerzil_timed.Statement.{statement}

@@ -1,4 +1,4 @@
-use Rattle.mem.proofs.Calls.{asks}
+use Rattle.num.proofs.Calls.{asks}
 use Rattle.timed.proofs.starting.Statement.{statement}
 use Rattle.timed.proofs.starting.Tie as tie
 

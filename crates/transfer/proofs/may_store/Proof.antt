@@ -1,4 +1,4 @@
-use Rattle.mem.proofs.Calls.{asks}
+use Rattle.num.proofs.Calls.{asks}
 use Rattle.transfer.specs.Transfer.{mayStore}
 use Rattle.transfer.proofs.may_store.Statement.{statement}
 use Rattle.transfer.proofs.may_store.Tie as tie

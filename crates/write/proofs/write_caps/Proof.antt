@@ -6,7 +6,7 @@ use borrow.Author.Needs.{needs}
 use denote.Ref.{now}
 use lib.ListN.{length, getD}
 use Rattle.cap.specs.declared.Cap.{Cap}
-use Rattle.cap.specs.Narrow.{null}
+use Rattle.narrow.specs.Narrow.{null}
 use Rattle.write.specs.Run.{Runs}
 use Rattle.write.specs.Write.{pieces, capPieces, capPiece}
 use Rattle.write.proofs.Pieces.{run-begins, run-next, run-all, run-ends, cap-most}

@@ -1,9 +1,0 @@
-use Rattle.bench.proofs.Table.{bench-table}
-use Rattle.bench.proofs.claims.Statement.{statement}
-use Rattle.bench.proofs.claims.Tie as tie
-
-returns : tie.Need-returns
-returns c = bench-table
-
-pub claims-spec : {M : Type 1} → statement M
-claims-spec = tie.close (tie.spec returns)

@@ -1,9 +1,0 @@
-use Rattle.mem.proofs.Calls.{asks}
-use Rattle.bench.proofs.refusing.Statement.{statement}
-use Rattle.bench.proofs.refusing.Tie as tie
-
-returns : tie.Need-returns
-returns c = rw (c .refusal-number .ensures)
-
-pub refusing-spec : {M : Type 1} → statement M
-refusing-spec = tie.close (tie.spec asks returns)

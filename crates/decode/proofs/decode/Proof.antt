@@ -1,0 +1,43 @@
+use borrow.Author.Needs.{needs}
+use Rattle.isa.specs.Decode.{lookup, majors, decodeWord}
+use Rattle.num.proofs.Calls.{asks}
+use Rattle.isa.proofs.Arms.{other}
+use Rattle.decode.proofs.decode.Statement.{statement}
+use Rattle.decode.proofs.decode.Tie as tie
+
+none : tie.Need-returns-17
+unfolding decodeWord majors
+none c = other _ _ (c .match .rest)
+
+pub decode-spec : {M : Type 1} → statement M
+unfolding lookup majors decodeWord
+decode-spec =
+    tie.close
+    (tie.spec
+    (λ c. search needs)
+    (λ c κs. search needs)
+    (λ c. search needs)
+    (λ c κs. search needs)
+    (λ c. search needs)
+    (λ c κs. search needs)
+    asks
+    (λ c. search needs)
+    (λ c κs. search needs)
+    asks asks asks asks
+    (λ c. rw (c .before .match .keys1) (c .special .ensures))
+    (λ c. rw (c .match .keys2, c .before .before .before .extend .ensures))
+    (λ c. rw (c .match .keys3, c .before .before .before .extend .ensures))
+    (λ c. rw (c .match .keys4))
+    (λ c. rw (c .match .keys5))
+    (λ c. rw (c .before .before .match .keys6, ← c .before .extend4 .ensures) (c .if-zero .ensures))
+    (λ c. rw (c .before .match .keys7, ← c .before .before .before .before .extend .ensures) (c .capability .ensures))
+    (λ c. rw (c .match .keys8, c .before .before .before .extend .ensures))
+    (λ c. rw (c .match .keys9, c .before .before .before .extend .ensures))
+    (λ c. rw (c .match .keys10, c .before .before .before .extend .ensures))
+    (λ c. rw (c .before .match .keys11, ← c .before .before .before .extend2 .ensures) (c .load .ensures))
+    (λ c. rw (c .match .keys12, c .before .extend3 .ensures))
+    (λ c. rw (c .match .keys13, c .before .before .before .extend .ensures))
+    (λ c. rw (c .before .match .keys14, ← c .before .before .before .extend2 .ensures) (c .store .ensures))
+    (λ c. rw (c .match .keys15, c .before .extend3 .ensures))
+    (λ c. rw (c .match .keys16, c .before .before .before .extend .ensures))
+    none)

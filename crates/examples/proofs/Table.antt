@@ -1,0 +1,86 @@
+-- The bench examples, computed. Assumes nothing.
+use Prim.Native.Nat.{ℕ, _/_}
+use mathlib.Core.Path.{_≡_, refl, _∙_}
+use mathlib.Core.Bool.{Bool, true, false, cond, _&&_}
+use mathlib.Core.List.{List, map}
+use lib.Dec.{eqb, leb}
+use lib.ListN.{length, replicate, length-replicate}
+use borrow.Author.Tests.{eq-eqb}
+use Rattle.num.specs.Number.{LINE, be, extendFrom, plusMod, toBe}
+use Rattle.mem.specs.Place.{bytesOf, numberOf, placeOf}
+use Rattle.store.specs.Store.{put, withTag}
+use Rattle.cap.specs.Cap.{accessBit, permitted, registerOpen}
+use Rattle.narrow.specs.Narrow.{incOffset}
+use Rattle.access.specs.Access.{accessOf, placedAt, placedFrom, signed, sumOf}
+use Rattle.line.specs.Line.{capIn, decode, fromWords}
+use Rattle.isa.specs.Decode.{codedSize, decodeWord, ifZero, isJumpWord, loadWord, lookup, majors, specialWord}
+use Rattle.checks.specs.Checks.{settle}
+use Rattle.transfer.specs.Transfer.{load}
+use Rattle.branch.specs.Branch.{branch, branchTo}
+use Rattle.plan.specs.Plan.{planOf}
+use Rattle.perform.specs.Perform.{ramOf, tagsOf, turnOf}
+use Rattle.perform.specs.Act.{plannedOf}
+use Rattle.fetch.specs.Fetch.{fetchOf}
+use Rattle.state.specs.State.{commit, operandsOf, stoppedAt}
+use Rattle.state.specs.Steps.{ramAt, runFrom, tagsAt, turnAt}
+use Rattle.record.specs.declared.Refusal.{Refusal}
+use Rattle.record.specs.Record.{bodyAt, headAt}
+use Rattle.entry.specs.Entry.{entryOf, generalOf, isLine, lineOf}
+use Rattle.fields.specs.Fields.{capOf, capabilityOf}
+use Rattle.book.specs.declared.Verdict.{Verdict}
+use Rattle.book.specs.Book.{afterEntry, afterHead, checkBook, inOrder, stepAt, walk}
+use Rattle.enter.specs.Enter.{bare, startAs, enterAll, enterBook, judged, machineWith, ramWith, readBook, tagsWith}
+use Rattle.compose.specs.Compose.{capBody, fields, generalBody, lineBody, recordOf}
+use Rattle.state.specs.Run.{runOf}
+use Rattle.answer.specs.declared.Answer.{Answer}
+use Rattle.bench.specs.Bench.{BENCH-RAM, BUDGET, FILE-MOST, benchOf}
+use Rattle.answer.specs.Answer.{answerOf, refusing, startedBy, bookRun}
+use Rattle.examples.specs.Table.{Row, table}
+use Rattle.examples.specs.Claims.{BenchTable}
+use Rattle.granted.proofs.Read.{read-is-accepted}
+
+-- the answer to a verdict on a book, in RAM and tags of these sizes; a run of an accepted book is not judged again
+unfoldable answering : ℕ → ℕ → List ℕ → List ℕ → Verdict → Answer
+answering ram tags book flash Verdict.Accepted =
+    let s = enterAll (length book) book ram (stepAt book ram 1 0 0) (bare (replicate ram 0) (replicate tags 0)) in
+    answerOf (runFrom BUDGET 0 flash (s .machine) (s .ram) (s .tags) .outcome)
+answering ram tags book flash (Verdict.Refused refusal) = refusing refusal
+
+-- the bench's answer as it is computed here: the sizes are numbers, and no list is as long as its RAM until a byte of it is wanted
+unfoldable answerIn : ℕ → ℕ → List ℕ → List ℕ → Answer
+answerIn ram tags book flash =
+    cond (leb (length book) FILE-MOST) (answering ram tags book flash (judged book (length flash) ram tags)) (refusing Refusal.Sizes)
+
+module _ (book flash ram tags : List ℕ) where
+  -- an accepted book sets all of RAM and all tags, and a run accepts it
+  started : (v : Verdict) → judged book (length flash) (length ram) (length tags) ≡ v
+      → startedBy BUDGET v flash (startAs v book ram tags) .answer ≡ answering (length ram) (length tags) book flash v
+  unfolding answering runOf readBook enterBook
+  started Verdict.Accepted e =
+      let h = rw e at (read-is-accepted book flash ram tags e) in
+      rw (h, length-replicate)
+  started (Verdict.Refused refusal) e = refl
+
+  sized : length ram ≡ BENCH-RAM → benchOf book flash ram tags .answer ≡ answerIn (length ram) (length tags) book flash
+  unfolding benchOf bookRun readBook answerIn
+  sized e = go (leb (length book) FILE-MOST)
+    where
+      v : Verdict
+      v = judged book (length flash) (length ram) (length tags)
+
+      go : (fits : Bool)
+          → cond (fits && eqb (length ram) BENCH-RAM) (startedBy BUDGET v flash (startAs v book ram tags))
+          (record { answer = refusing Refusal.Sizes; ram = ram; tags = tags }) .answer
+          ≡ cond fits (answering (length ram) (length tags) book flash v) (refusing Refusal.Sizes)
+      go true = rw (eq-eqb (length ram) BENCH-RAM e) (started v refl)
+      go false = refl
+
+computed : map (λ (r : Row). answerIn BENCH-RAM (BENCH-RAM / LINE) (r .book) (r .flash)) table ≡ map (λ (r : Row). r .answer) table
+unfolding table answerIn answering judged enterAll checkBook walk stepAt afterHead headAt bodyAt afterEntry inOrder entryOf capabilityOf capOf generalOf lineOf isLine be toBe runFrom turnAt fetchOf plannedOf operandsOf commit stoppedAt recordOf fields capBody generalBody lineBody machineWith ramWith tagsWith put withTag permitted accessOf placedAt placedFrom signed sumOf placeOf bytesOf numberOf decodeWord lookup majors specialWord ifZero loadWord codedSize isJumpWord settle load branch branchTo planOf registerOpen accessBit turnOf ramAt tagsAt ramOf tagsOf incOffset plusMod extendFrom capIn decode fromWords
+computed = refl
+
+pub bench-table : BenchTable
+bench-table ram tags er et =
+    (λ i. map (λ (r : Row). sized (r .book) (r .flash) ram tags er i) table)
+    ∙ (λ i. map (λ (r : Row). answerIn (er i) (et i) (r .book) (r .flash)) table)
+    ∙ computed

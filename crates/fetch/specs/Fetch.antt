@@ -1,0 +1,38 @@
+-- Fetch (01, "Access and fetch").
+use Prim.Native.Nat.{ℕ, _%_, _^_}
+use mathlib.Core.Bool.{Bool, cond, not}
+use mathlib.Core.List.{List}
+use Rattle.mem.specs.declared.Loaded.{Loaded}
+use Rattle.mem.specs.Place.{loadOf}
+use Rattle.cap.specs.declared.Cap.{Cap}
+use Rattle.access.specs.declared.Access.{Access}
+use Rattle.cap.specs.Cap.{permits, EXECUTE}
+use Rattle.access.specs.Access.{accessOf}
+use Rattle.checks.specs.declared.Fault.{Fault}
+use Rattle.checks.specs.Checks.{lacking, LENGTH, TAG, SEAL, NO-REGISTER}
+use Rattle.fetch.specs.declared.Fetched.{Fetched}
+
+abbrev pub wordIn : Loaded → Fetched
+wordIn (Loaded.Value v) = Fetched.Word (v % 2 ^ 32)
+wordIn Loaded.Nowhere = Fetched.Stops Fault.Nowhere
+
+-- Length unless PC + 4 <= length and base + PC + 4 <= 2^64; then alignment to 4; then memory
+abbrev pub fetchAt : List ℕ → List ℕ → Access → Fetched
+fetchAt flash ram (Access.At a) = wordIn (loadOf flash ram a 4)
+fetchAt flash ram Access.Length = Fetched.Stops (Fault.Raise LENGTH NO-REGISTER)
+fetchAt flash ram Access.Misaligned = Fetched.Stops Fault.Misaligned
+
+abbrev pub must : Bool → ℕ → Fetched → Fetched
+must holds cause rest = cond holds rest (Fetched.Stops (Fault.Raise cause NO-REGISTER))
+
+-- PCC's offset is the PC. In order: tag, seal, Permit_Execute, and the access of four bytes at it
+unfoldable pub fetchOf : List ℕ → List ℕ → Cap → Fetched
+fetchOf flash ram pcc =
+    must (pcc .tag) TAG
+    (must (not (pcc .sealed)) SEAL
+    (must (permits pcc EXECUTE) (lacking EXECUTE)
+    (fetchAt flash ram (accessOf pcc 0 0 4))))
+
+abbrev pub wordOf : Fetched → ℕ
+wordOf (Fetched.Word w) = w
+wordOf (Fetched.Stops fault) = 0

@@ -1,0 +1,57 @@
+// The word at PCC fetched, or why there is none (01, "Access and fetch").
+use access::Access;
+use cap::Cap;
+use checks::Fault;
+use checks::LENGTH;
+use checks::NO_REGISTER;
+use checks::SEAL;
+use checks::TAG;
+use mem::Loaded;
+use num::Size;
+ghost use mathlib.Core.Path.{_≡_};
+ghost use Rattle.fetch.specs.Fetch.{wordIn, fetchOf, wordOf};
+
+pub enum Fetched {
+    Word(u32),
+    Stops(Fault),
+}
+
+fn word_in(loaded: Loaded) -> Fetched
+    ensures { λ r. ⌜ r ≡ wordIn loaded ⌝ }
+{
+    match loaded {
+        Loaded::Value(v) => Fetched::Word((v % 0x1_0000_0000) as u32),
+        Loaded::Nowhere => Fetched::Stops(Fault::Nowhere),
+    }
+}
+
+// The word at PCC, or why there is none.
+pub fn fetch<'a>(flash: &'a [u8], ram: &'a [u8], pcc: Cap) -> Fetched
+    ensures { λ r. ⌜ r ≡ fetchOf (now (flash .entry)) (now (ram .entry)) pcc ⌝ }
+{
+    if !pcc.tag {
+        return Fetched::Stops(Fault::Raise(TAG, NO_REGISTER));
+    }
+    if pcc.sealed {
+        return Fetched::Stops(Fault::Raise(SEAL, NO_REGISTER));
+    }
+    if !cap::permits(pcc.perms, cap::EXECUTE) {
+        return Fetched::Stops(Fault::Raise(0x11, NO_REGISTER));
+    }
+    let lies = access::test(pcc, 0, 0, Size::Four);
+    match lies {
+        Access::At(a) => word_in(mem::load(flash, ram, a, Size::Four)),
+        Access::Length => Fetched::Stops(Fault::Raise(LENGTH, NO_REGISTER)),
+        Access::Misaligned => Fetched::Stops(Fault::Misaligned),
+    }
+}
+
+// The word that was fetched; 0 where there is none.
+pub fn word_of(fetched: Fetched) -> u32
+    ensures { λ r. ⌜ r ≡ wordOf fetched ⌝ }
+{
+    match fetched {
+        Fetched::Word(w) => w,
+        Fetched::Stops(_) => 0,
+    }
+}

@@ -1,8 +1,0 @@
-use Rattle.isa.specs.Decode.{storeWord}
-use Rattle.mem.proofs.Calls.{asks}
-use Rattle.isa.proofs.store.Statement.{statement}
-use Rattle.isa.proofs.store.Tie as tie
-
-pub store-spec : {M : Type 1} → statement M
-unfolding storeWord
-store-spec = tie.close (tie.spec asks asks (λ c. rw (← c .before .coded-size .ensures) (c .if-zero .ensures)))

@@ -1,0 +1,2 @@
+pub mod Narrow
+pub mod Claims

@@ -1,0 +1,47 @@
+// Registers as bytes taken as a machine again, and its book written.
+use book::Verdict;
+use write::Written;
+ghost use mathlib.Core.Path.{_≡_};
+ghost use Rattle.taking.specs.Claims.{HandedOutIsTaken};
+ghost use Rattle.taking.specs.Taking.{writeFrom, codeOf, bytesOf};
+
+// The registers read, as a book for no memory, and the book of that machine, RAM and tags written.
+pub fn write_from(registers: &[u8], ram: &[u8], tags: &[u8], book: &mut [u8]) -> Written
+    ensures { λ r. ⌜ r ≡ writeFrom (now (registers .entry)) (now (ram .entry)) (now (tags .entry)) (now (book .entry)) .written ⌝ }
+    ensures { λ _. ⌜ now (book .exit) ≡ writeFrom (now (registers .entry)) (now (ram .entry)) (now (tags .entry)) (now (book .entry)) .out ⌝ }
+{
+    let mut no_ram: [u8; 0] = [0; 0];
+    let mut no_tags: [u8; 0] = [0; 0];
+    let started = enter::read_book(registers, 0, &mut no_ram, &mut no_tags);
+    let verdict = started.verdict;
+    match verdict {
+        Verdict::Refused(refusal) => Written::Refused(refusal),
+        Verdict::Accepted => {
+            let m = started.machine;
+            write::write_book(m, ram, tags, book)
+        }
+    }
+}
+
+pub fn code_of(written: Written) -> u8
+    ensures { λ r. ⌜ r ≡ codeOf written ⌝ }
+{
+    match written {
+        Written::Book(_) => 0,
+        Written::Refused(refusal) => record::refusal_number(refusal),
+    }
+}
+
+pub fn bytes_of(written: Written) -> usize
+    ensures { λ r. ⌜ r ≡ bytesOf written ⌝ }
+{
+    match written {
+        Written::Book(bytes) => bytes,
+        Written::Refused(_) => 0,
+    }
+}
+
+// What is handed out, is taken.
+pub fn claims()
+    ensures handed_out_is_taken { λ _. ⌜ HandedOutIsTaken ⌝ }
+{}
