@@ -1,16 +1,10 @@
 //! The cases for the bench: what those of the program crate `vectors` meet.
 
-#[path = "generator/edges.rs"]
-mod edges;
-#[path = "generator/steps.rs"]
-mod steps;
-#[path = "generator/table.rs"]
-mod table;
-
+use crate::generator::edges;
+use crate::generator::steps::{each_step, expected, Step};
 use second::generate::{answer_line, bench_cases, decode, encode, BenchCase, Case, RunCase};
 use second::{bench_line, read_book};
 use std::collections::{BTreeMap, BTreeSet};
-use steps::{each_step, expected, Step};
 
 /// The command that made the crate's files is `second-cases 1 3000 OUT bench`.
 const SEED: u64 = 1;

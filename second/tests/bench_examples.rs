@@ -1,7 +1,6 @@
 //! The bench examples of 01 and the empty cases.
 
-mod common;
-use common::*;
+use crate::common::*;
 use second::*;
 
 /// The first word through A, then BREAK, so that a made step shows as stop 8.

@@ -1,8 +1,6 @@
 //! The cases of books alone: what those of the program crate `books` meet.
 
-#[path = "generator/deserved.rs"]
-mod deserved;
-
+use crate::generator::deserved;
 use second::generate::{
     answer, answer_line, book_cases, decode, encode, Answer, Case, ReadCase, WriteCase,
 };

@@ -1,7 +1,6 @@
 //! The checks of each instruction in the order of 004: every fault at once, mended one by one.
 
-mod common;
-use common::*;
+use crate::common::*;
 use second::*;
 
 /// What stops the word, and what mends it.

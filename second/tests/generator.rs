@@ -1,13 +1,13 @@
 //! The random cases: what they cover, and the file that holds them.
 
 #[path = "generator/deserved.rs"]
-mod deserved;
+pub mod deserved;
 #[path = "generator/edges.rs"]
-mod edges;
+pub mod edges;
 #[path = "generator/steps.rs"]
-mod steps;
+pub mod steps;
 #[path = "generator/table.rs"]
-mod table;
+pub mod table;
 
 use second::asm::encode::{format_of, Format, Kind, FORMATS};
 use second::generate::{

@@ -1,7 +1,6 @@
 //! What the instructions do where nothing stops them.
 
-mod common;
-use common::*;
+use crate::common::*;
 use second::random::Random;
 use second::*;
 

@@ -1,7 +1,6 @@
 //! Memory that a reach cannot read or load does not change a run; memory it can, may.
 
-mod common;
-use common::*;
+use crate::common::*;
 use second::random::Random;
 use second::*;
 

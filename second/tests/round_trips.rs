@@ -1,7 +1,6 @@
 //! What is written reads back the same: capabilities, lines and books.
 
-mod common;
-use common::*;
+use crate::common::*;
 use second::random::Random;
 use second::*;
 

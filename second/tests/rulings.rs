@@ -1,7 +1,5 @@
 //! One test or more for each ruling, that would fail under its other reading.
 
-mod common;
-
 #[path = "rulings/a01_to_a09.rs"]
 mod a01_to_a09;
 #[path = "rulings/a10_to_a18.rs"]

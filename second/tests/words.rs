@@ -1,7 +1,6 @@
 //! Which words are instructions, and which are reserved.
 
-mod common;
-use common::*;
+use crate::common::*;
 use second::random::Random;
 use second::*;
 

@@ -1,7 +1,7 @@
 //! Where a step stands at the edge of a range: the last that passes, the first
 //! that does not.
 
-use crate::Step;
+use super::Step;
 use second::Cap;
 use std::collections::BTreeSet;
 
