@@ -17,6 +17,7 @@ use Rattle.line.specs.Line.{fromWords, decode, capIn, loadCap}
 use Rattle.core.specs.declared.Pending.{Pending}
 use Rattle.accept.specs.declared.Refusal.{Refusal}
 use Rattle.accept.specs.declared.Verdict.{Verdict}
+use Rattle.checks.proofs.Tests.{both-true}
 use Rattle.accept.specs.Accept.{every, sizesFit, tagBytesFit, topFits, capsFit, jumpFits, loadedFits, lineAt, lineFits, linesFit, widthFits, widthsFit, jumpWidth, verdictOf}
 
 -- a scan that passed, passed everywhere
@@ -32,10 +33,6 @@ each (suc n) i p e j h k = go (eqb i j) refl (λ l. each n (suc i) p (cond-true 
     go : (b : Bool) → eqb i j ≡ b → (suc i ≤ j → p j ≡ true) → p j ≡ true
     go true z later = subst (λ (x : ℕ). p x ≡ true) (eqb-true i j z) (cond-true (p i) (every n (suc i) p) e .0)
     go false z later = later (omega (arith, eqb-false i j z))
-
-pub both-true : (a b : Bool) → (a && b) ≡ true → (a ≡ true) × (b ≡ true)
-both-true true b e = (refl, e)
-both-true false b e = let z : _≡_ {A = ℕ} 0 1 = cc in absurd (omega arith)
 
 -- an accepted start passed every test
 tests : (a b d e : Bool) → Verdict.Accepted ≡ cond a (cond b (cond d (cond e Verdict.Accepted (Verdict.Refused Refusal.Width)) (Verdict.Refused Refusal.Top)) (Verdict.Refused Refusal.TagByte)) (Verdict.Refused Refusal.Sizes)

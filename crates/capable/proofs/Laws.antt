@@ -27,7 +27,8 @@ use Rattle.perform.specs.Perform.{turnOf, ramOf, tagsOf}
 use Rattle.mem.specs.Place.{placeIn}
 use Rattle.data.specs.Data.{Reaches, loadedAt, storedAt, storesRam, storesTags}
 use Rattle.plain.proofs.Laws.{load-does, store-does}
-use Rattle.data.proofs.Reaches.{two, planned-at, planned-reached}
+use Rattle.checks.proofs.Tests.{both-true}
+use Rattle.data.proofs.Reaches.{planned-at, planned-reached}
 use Rattle.deriving.specs.declared.Capable.{Capable}
 use Rattle.deriving.specs.Deriving.{Leads}
 use Rattle.capable.specs.Capable.{putsLoaded, putsStored, putsLine, setsWhere, heldWhere, lineAt, lineStored, lineRam, lineTags, Shows, Amounts}
@@ -98,7 +99,7 @@ pub stores : (pcc : Cap) (n25 : ℕ) (c by : Cap) (opens local global some passe
     → passes ≡ true → (registerOpen (pcc .perms) n25 ≡ true) × (mayStore c by ≡ true)
 unfolding mayStore
 stores pcc n25 c by opens local global some passes eo el eg es ep h =
-    let t = two opens some (sym ep ∙ h) in (sym eo ∙ t .0, may (permits by STORE-LOCAL) (not (c .tag)) (permits c GLOBAL) (rw (← el, ← eg) (sym es ∙ t .1)))
+    let t = both-true opens some (sym ep ∙ h) in (sym eo ∙ t .0, may (permits by STORE-LOCAL) (not (c .tag)) (permits c GLOBAL) (rw (← el, ← eg) (sym es ∙ t .1)))
 
 module _ (o : Operands) (flash ram tags : List ℕ) (n25 n20 g25 g15 g10 : ℕ) (pcc k25 : Cap) (c20 c15 : Named) (s : Shows o n25 n20 g25 g15 g10 pcc k25 c20 c15) where
   get-with : (field : Field) (v : ℕ) (a : Bool) → v ≡ fieldOf field (c15 .cap) → registerOpen (pcc .perms) (c15 .number) ≡ a

@@ -19,6 +19,7 @@ use Rattle.checks.specs.declared.Effect.{Effect}
 use Rattle.checks.specs.declared.Planned.{Planned}
 use Rattle.checks.specs.Checks.{settle, opened, tagged, unsealed, granted}
 use Rattle.transfer.specs.Transfer.{lies}
+use Rattle.checks.proofs.Tests.{both-true}
 use Rattle.data.specs.Data.{Lands, Reaches, Reached}
 
 pub planned-at : (r : Access) (register : ℕ) (misaligned : Fault) (effect : Address → Effect) (a : Address) → r ≡ Access.At a → settle (lies r register misaligned effect) ≡ Planned.Does (effect a)
@@ -36,22 +37,17 @@ planned-reached permission pcc cb rt x size r a misaligned effect t q = t .passe
 no-check : (A : Type 0) → false ≡ true → A
 no-check A q = let z : _≡_ {A = ℕ} 0 1 = cc in absurd (omega arith)
 
-pub two : (a b : Bool) → (a && b) ≡ true → (a ≡ true) × (b ≡ true)
-two true true e = (refl, refl)
-two true false e = no-check _ e
-two false b e = no-check _ e
-
 -- nothing is large
 pub all-near : (b f r o : ℕ) (p q s : Bool) → p ≡ (ltb b (2 ^ 62) && ltb f (2 ^ 62)) → q ≡ (ltb r (2 ^ 62) && ltb o (2 ^ 62)) → s ≡ (p && q) → s ≡ true → (b < 2 ^ 62) × (f < 2 ^ 62) × (r < 2 ^ 62) × (o < 2 ^ 62)
-all-near b f r o p q s ep eq es e = let t = two p q (sym es ∙ e) in let x = two (ltb b (2 ^ 62)) (ltb f (2 ^ 62)) (sym ep ∙ t .0) in let y = two (ltb r (2 ^ 62)) (ltb o (2 ^ 62)) (sym eq ∙ t .1) in
+all-near b f r o p q s ep eq es e = let t = both-true p q (sym es ∙ e) in let x = both-true (ltb b (2 ^ 62)) (ltb f (2 ^ 62)) (sym ep ∙ t .0) in let y = both-true (ltb r (2 ^ 62)) (ltb o (2 ^ 62)) (sym eq ∙ t .1) in
     (ltb-true b (2 ^ 62) (x .0), ltb-true f (2 ^ 62) (x .1), ltb-true r (2 ^ 62) (y .0), ltb-true o (2 ^ 62) (y .1))
 
-pub few : (s : Size) → bytesIn s ≤ 32
-few Size.One = omega arith
-few Size.Two = omega arith
-few Size.Four = omega arith
-few Size.Eight = omega arith
-few Size.Line = omega arith
+pub a-line-at-most : (s : Size) → bytesIn s ≤ 32
+a-line-at-most Size.One = omega arith
+a-line-at-most Size.Two = omega arith
+a-line-at-most Size.Four = omega arith
+a-line-at-most Size.Eight = omega arith
+a-line-at-most Size.Line = omega arith
 
 -- the exact sum, where nothing in it is large
 sums-up : (b n s offset rt x o : ℕ) → offset < 2 ^ 62 → rt < 2 ^ 62 → x < 2 ^ 63 → o ≡ ((offset + rt) % 2 ^ 64 + x) % 2 ^ 64 → placedAt b n o s ≡ placedFrom b n (sumOf offset rt x) s
@@ -67,7 +63,7 @@ sums b n s offset rt x o false e ho hr fx q h = sums-down b n s offset rt x o ho
 pub near-lands : (c : Cap) (rt x o : ℕ) (size : Size) (a : Address) → c .base .0 < 2 ^ 62 → c .offset .0 < 2 ^ 62 → rt < 2 ^ 62 → x < 2 ^ 64 → o ≡ ((c .offset .0 + rt) % 2 ^ 64 + x) % 2 ^ 64 → o < 2 ^ 62
     → o + bytesIn size ≤ c .length → a ≡ record { 0 = c .base .0 + o } → true ≡ aligned (a .0) (bytesIn size) → Lands (accessOf c rt x (bytesIn size)) (Access.At a)
 unfolding accessOf
-near-lands c rt x o size a hb ho hr fx q h fits at aligns = λ a′ e. sym (let k = few size in fitting _ _ o (bytesIn size) {x = Access.At a} fits (omega arith) (answer a _ (bytesIn size) true (ap (λ (y : Address). y .0) at) aligns) ∙ sums _ _ _ _ rt x o _ refl ho hr fx q h) ∙ e
+near-lands c rt x o size a hb ho hr fx q h fits at aligns = λ a′ e. sym (let k = a-line-at-most size in fitting _ _ o (bytesIn size) {x = Access.At a} fits (omega arith) (answer a _ (bytesIn size) true (ap (λ (y : Address). y .0) at) aligns) ∙ sums _ _ _ _ rt x o _ refl ho hr fx q h) ∙ e
 
 -- every check before it passed
 all-pass : (opens tag sealed permit : Bool) → (opens && ((tag && not sealed) && permit)) ≡ true → (opens ≡ true) × (tag ≡ true) × (sealed ≡ false) × (permit ≡ true)

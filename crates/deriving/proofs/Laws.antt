@@ -3,6 +3,7 @@ use Prim.Native.Nat.{ℕ}
 use mathlib.Core.Path.{_≡_, refl, sym, _∙_}
 use mathlib.Core.Bool.{Bool, true, false, not, _&&_}
 use lib.Dec.{leb}
+use borrow.Author.Tests.{not-true}
 use Rattle.cap.specs.declared.Cap.{Cap}
 use Rattle.cap.specs.Cap.{registerOpen}
 use Rattle.narrow.specs.Narrow.{andPerms, clearTag, incBase, setLength, setOffset, incOffset}
@@ -11,7 +12,7 @@ use Rattle.checks.specs.declared.Effect.{Effect}
 use Rattle.checks.specs.declared.Planned.{Planned}
 use Rattle.checks.specs.Checks.{settle}
 use Rattle.derive.specs.Derive.{cAndPerm, cClearTag, cIncBase, cSetLen, cSetOffset, cIncOffset}
-use Rattle.data.proofs.Reaches.{two}
+use Rattle.checks.proofs.Tests.{both-true}
 use Rattle.deriving.specs.declared.Capable.{Capable}
 use Rattle.deriving.specs.Deriving.{putsWhere, Leads}
 
@@ -19,10 +20,6 @@ use Rattle.deriving.specs.Deriving.{putsWhere, Leads}
 pub leads : (planned : Planned) (passes : Bool) (cd : ℕ) (c : Cap) → (passes ≡ true → planned ≡ Planned.Does (Effect.Capability cd c)) → Leads planned (putsWhere passes cd c)
 leads planned true cd c h = h refl
 leads planned false cd c h = tt
-
-not-true : (a : Bool) → not a ≡ true → a ≡ false
-not-true true e = sym e
-not-true false e = refl
 
 -- what the tests say, once they hold
 pub record Tests (pcc : Cap) (cd : ℕ) (cb : Named) (rt : ℕ) (opens movable free shorter : Bool) : Type 0 where
@@ -35,10 +32,10 @@ pub tested : (pcc : Cap) (cd : ℕ) (cb : Named) (rt : ℕ) (to from opens fixed
     → to ≡ registerOpen (pcc .perms) cd → from ≡ registerOpen (pcc .perms) (cb .number) → opens ≡ (to && from) → fixed ≡ (cb .cap .tag && cb .cap .sealed) → movable ≡ (opens && not fixed)
     → loose ≡ (cb .cap .tag && not (cb .cap .sealed)) → free ≡ (opens && loose) → shorter ≡ (free && leb rt (cb .cap .length)) → Tests pcc cd cb rt opens movable free shorter
 tested pcc cd cb rt to from opens fixed movable loose free shorter et ef eo ex em el er es = record {
-  is-open = λ h. let t = two to from (sym eo ∙ h) in (sym et ∙ t .0, sym ef ∙ t .1);
-  is-movable = λ h. let t = two opens (not fixed) (sym em ∙ h) in (t .0, rw (← ex) (t .1));
-  is-free = λ h. let t = two opens loose (sym er ∙ h) in let u = two (cb .cap .tag) (not (cb .cap .sealed)) (sym el ∙ t .1) in (t .0, (u .0, not-true (cb .cap .sealed) (u .1)));
-  is-shorter = λ h. two free (leb rt (cb .cap .length)) (sym es ∙ h);
+  is-open = λ h. let t = both-true to from (sym eo ∙ h) in (sym et ∙ t .0, sym ef ∙ t .1);
+  is-movable = λ h. let t = both-true opens (not fixed) (sym em ∙ h) in (t .0, rw (← ex) (t .1));
+  is-free = λ h. let t = both-true opens loose (sym er ∙ h) in let u = both-true (cb .cap .tag) (not (cb .cap .sealed)) (sym el ∙ t .1) in (t .0, (u .0, not-true (cb .cap .sealed) (u .1)));
+  is-shorter = λ h. both-true free (leb rt (cb .cap .length)) (sym es ∙ h);
 }
 
 module _ (pcc : Cap) (cd : ℕ) (cb : Named) (rt : ℕ) (opens movable free shorter : Bool) (t : Tests pcc cd cb rt opens movable free shorter) where

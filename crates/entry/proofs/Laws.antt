@@ -13,6 +13,7 @@ use Rattle.accept.specs.Accept.{topFits, loadedFits}
 use Rattle.record.specs.declared.Entry.{Entry}
 use Rattle.record.specs.Record.{byte, number}
 use Rattle.entry.specs.Entry.{generalOf, isLine, lineOf, entryOf}
+use Rattle.checks.proofs.Tests.{both-true}
 use Rattle.fields.specs.Fields.{capOf, capabilityOf}
 
 -- an address of the RAM's lines
@@ -57,10 +58,6 @@ Fits body ram (Entry.Capability i c) = i ≤ 32
 Fits body ram (Entry.General i v) = i ≤ 31
 Fits body ram (Entry.Line a tag) = LineFits body ram a
 Fits body ram (Entry.Refused refusal) = Unit {0}
-
-both-true : (t₁ t₂ : Bool) → (t₁ && t₂) ≡ true → (t₁ ≡ true) × (t₂ ≡ true)
-both-true true t₂ e = (refl, e)
-both-true false t₂ e = let z : _≡_ {A = ℕ} 0 1 = cc in absurd (omega arith)
 
 module _ (body : List ℕ) (ram : ℕ) where
   when : (t : Bool) (x y : Entry) → (t ≡ true → Fits body ram x) → Fits body ram y → Fits body ram (cond t x y)

@@ -15,7 +15,8 @@ use Rattle.record.specs.declared.Refusal.{Refusal}
 use Rattle.book.specs.declared.Verdict.{Verdict}
 use Rattle.book.specs.Book.{checkBook, stepAt}
 use Rattle.enter.specs.Enter.{bare, judged}
-use Rattle.accept.proofs.Accepted.{both-true, untagged}
+use Rattle.checks.proofs.Tests.{both-true}
+use Rattle.accept.proofs.Accepted.{untagged}
 use Rattle.reread.proofs.Again.{read-accepted}
 use Rattle.granted.specs.Granted.{BookAccepted, read, ReadIsAccepted}
 use Rattle.granted.proofs.Says.{Fit}

@@ -20,7 +20,7 @@ use Rattle.fields.specs.Fields.{capOf, capabilityOf}
 use Rattle.book.specs.declared.Step.{Step}
 use Rattle.book.specs.Book.{stepAt}
 use Rattle.book.proofs.Walks.{more-goes-on, more-fits}
-use Rattle.accept.proofs.Accepted.{both-true}
+use Rattle.checks.proofs.Tests.{both-true}
 
 -- neither 22 nor 24
 pub record Fit (c : Cap) : Type 0 where

@@ -17,7 +17,8 @@ use Rattle.line.specs.Line.{word, decode, fromWords, capIn}
 use Rattle.core.specs.declared.Pending.{Pending}
 use Rattle.accept.specs.declared.Verdict.{Verdict}
 use Rattle.accept.specs.Accept.{topFits, jumpFits, loadedFits, widthFits, jumpWidth, verdictOf}
-use Rattle.accept.proofs.Accepted.{both-true, whole-lines, few-lines, cap-top, pcc-top, jump-top, cap-width, pcc-width, jump-width, line-top, bytes-32, loaded-top}
+use Rattle.checks.proofs.Tests.{both-true}
+use Rattle.accept.proofs.Accepted.{whole-lines, few-lines, cap-top, pcc-top, jump-top, cap-width, pcc-width, jump-width, line-top, bytes-32, loaded-top}
 use Rattle.core.specs.declared.Machine.{Machine}
 use Rattle.state.specs.State.{capability}
 use Rattle.isolation.specs.Reach.{Memories, lineCap, Held, inRegister, inPcc, inPending}

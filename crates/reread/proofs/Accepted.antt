@@ -7,7 +7,7 @@ use borrow.Author.Tests.{ltb-true}
 use Rattle.cap.specs.declared.Cap.{Cap}
 use Rattle.cap.specs.Cap.{Within}
 use Rattle.accept.specs.Accept.{widthFits}
-use Rattle.accept.proofs.Accepted.{both-true}
+use Rattle.checks.proofs.Tests.{both-true}
 use Rattle.reread.specs.Claims.{Sized}
 
 pub within : (c : Cap) → Sized c → widthFits c ≡ true → Within c

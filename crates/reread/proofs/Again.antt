@@ -28,7 +28,8 @@ use Rattle.write.specs.Write.{lineBytes, rests}
 use Rattle.enter.specs.Enter.{Start, entered, machineWith, ramWith, tagsWith, enterAll, enterBook, bare, judged, readBook}
 use Rattle.reread.specs.Claims.{Typed, WrittenAndRead}
 use Rattle.reread.proofs.Walked.{Suffix, Passes}
-use Rattle.accept.proofs.Accepted.{both-true, sizes-fit, tag-low, whole-lines, first-zero, bytes-32}
+use Rattle.checks.proofs.Tests.{both-true}
+use Rattle.accept.proofs.Accepted.{sizes-fit, tag-low, whole-lines, first-zero, bytes-32}
 use Rattle.reread.proofs.Filled.{filled, filled-set, filled-same, filled-all, filled-put, filled-part, zero-part, line-bytes-at}
 use Rattle.reread.proofs.Written.{Omits, bookOmitting, zeros, written-omits, there, book-walk, book-accepted, taken}
 

@@ -16,7 +16,8 @@ use Rattle.cap.specs.declared.Cap.{Cap}
 use Rattle.narrow.specs.Narrow.{null}
 use Rattle.compose.specs.Compose.{fields, recordOf, lineBody, zeroCap, zeroBytes}
 use Rattle.compose.proofs.Fields.{length-fields}
-use Rattle.accept.proofs.Accepted.{each, both-true}
+use Rattle.checks.proofs.Tests.{both-true}
+use Rattle.accept.proofs.Accepted.{each}
 use Rattle.reread.proofs.Walked.{Suffix}
 
 -- the first i elements of xs over those of zs

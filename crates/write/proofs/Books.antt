@@ -22,6 +22,7 @@ use Rattle.record.specs.declared.Refusal.{Refusal}
 use Rattle.write.specs.declared.Written.{Written}
 use Rattle.write.specs.Run.{Runs}
 use Rattle.write.specs.Write.{capPiece, generalPiece, capPieces, generalPieces, linePieces, bookOf, rests, Result, refused, wholly, afterStart}
+use Rattle.checks.proofs.Tests.{both-true}
 use Rattle.write.proofs.Pieces.{run-ends, runs-put, runs-on, cap-most, general-most}
 
 -- where the records of a kind end at most
@@ -82,10 +83,6 @@ module _ (m : Machine) (ram tags out : List ℕ) where
         (λ i. record { written = Written.Book (e i); out = f i })
 
 -- 20 tells how many lines there are
-both-true : (a b : Bool) → (a && b) ≡ true → (a ≡ true) × (b ≡ true)
-both-true true b e = (refl, e)
-both-true false b e = let z : _≡_ {A = ℕ} 0 1 = cc in absurd (omega arith)
-
 module _ (caps : List Cap) (pcc : Cap) (pending : Pending) (first : ℕ) (ram tags : List ℕ) where
   misfit : sizesFit 0 (length ram) (length tags) ≡ false → verdictOf caps pcc pending first 0 ram tags ≡ Verdict.Refused start.Refusal.Sizes
   unfolding verdictOf

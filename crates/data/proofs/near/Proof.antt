@@ -3,14 +3,14 @@ use native.Mathlib.Omega.{arith}
 use borrow.Author.Needs.{needs}
 use borrow.Author.Tests.{leb-true}
 use Rattle.num.proofs.Calls.{asks}
-use Rattle.data.proofs.Reaches.{all-near, few, near-lands, lands-not}
+use Rattle.data.proofs.Reaches.{all-near, a-line-at-most, near-lands, lands-not}
 use Rattle.data.proofs.near.Statement.{statement}
 use Rattle.data.proofs.near.Tie as tie
 
 add-if2 : tie.Need-add-if2
 add-if2 c = let a = c .before .before .before .before .before .before .before .args in
     let x = all-near (a .c .base .0) (a .c .offset .0) (a .rt) (c .before .before .before .before .before .wrapping-add-u642 .result) _ _ _ (c .before .before .before .before .both .ensures) (c .before .before .before .both2 .ensures) (c .before .before .both3 .ensures) (c .before .if1 .taken) in
-    let n = few (a .size) in omega (arith, c .size-bytes .ensures, x .3, n)
+    let n = a-line-at-most (a .size) in omega (arith, c .size-bytes .ensures, x .3, n)
 
 add-t20 : tie.Need-add-t20
 add-t20 c = let a = c .before .before .before .before .before .before .before .before .args in
