@@ -3,21 +3,7 @@ use isa::Alu;
 use isa::Instr;
 use num::Size;
 ghost use mathlib.Core.Path.{_≡_};
-ghost use Prim.Native.Nat.{_+_, _<_};
-ghost use Rattle.num.specs.Number.{extendFrom};
 ghost use Rattle.isa.specs.Decode.{decoded, operations, specialWord, codedSize, loadWord, storeWord, decodeWord};
-
-// A number below twice `half`, the weight of its top bit, with that bit carried on to 64 bits.
-fn extend(x: u64, half: u64) -> u64
-    requires { ⌜ x < half + half ⌝ }
-    ensures { λ r. ⌜ r ≡ extendFrom half x ⌝ }
-{
-    if x < half {
-        x
-    } else {
-        x - half + (u64::MAX - half + 1)
-    }
-}
 
 // The operation of a function of major opcode 0.
 fn operation(function: u32) -> Instr
@@ -61,7 +47,7 @@ fn coded_size(code: u32) -> Size
 }
 
 // A word of major opcode 50; `offset` is its 10..3, signed.
-fn load(word: u32, offset: u64) -> Instr
+pub fn load(word: u32, offset: u64) -> Instr
     ensures { λ r. ⌜ r ≡ loadWord word offset ⌝ }
 {
     if word % 8 == 7 {
@@ -72,7 +58,7 @@ fn load(word: u32, offset: u64) -> Instr
 }
 
 // A word of major opcode 58.
-fn store(word: u32, offset: u64) -> Instr
+pub fn store(word: u32, offset: u64) -> Instr
     ensures { λ r. ⌜ r ≡ storeWord word offset ⌝ }
 {
     isa::if_zero(word / 4 % 2, Instr::Store(coded_size(word % 4), offset))
@@ -83,9 +69,9 @@ pub fn decode(word: u32) -> Instr
     ensures { λ r. ⌜ r ≡ decodeWord word ⌝ }
 {
     let low = (word % 0x1_0000) as u64;
-    let signed = extend(low, 0x8000);
-    let near = extend((word / 8 % 0x100) as u64, 0x80);
-    let far = extend((word % 0x800) as u64, 0x400);
+    let signed = immediate::signed_16(word);
+    let near = immediate::signed_8(word);
+    let far = immediate::signed_11(word);
     match word / 0x400_0000 {
         0x00 => special(word),
         0x04 => Instr::Branch(true, signed),
@@ -94,7 +80,7 @@ pub fn decode(word: u32) -> Instr
         0x0d => Instr::ComputeImmediate(Alu::Or, low),
         0x0f => isa::if_zero(
             word / 0x20_0000 % 32,
-            Instr::Lui(extend(low * 0x1_0000, 0x8000_0000)),
+            Instr::Lui(immediate::upper(word)),
         ),
         18 => capability::capability(word, signed),
         0x19 => Instr::ComputeImmediate(Alu::Daddu, signed),

@@ -3,7 +3,7 @@ use Prim.Native.Nat.{ℕ}
 use mathlib.Core.Path.{_≡_}
 use mathlib.Core.Bool.{Bool, cond}
 use Rattle.cap.specs.declared.Cap.{Cap}
-use Rattle.isa.specs.declared.Instr.{Instr}
+use Rattle.isa.specs.Decode.{capabilityWord}
 use Rattle.checks.specs.declared.Named.{Named}
 use Rattle.checks.specs.declared.Effect.{Effect}
 use Rattle.checks.specs.declared.Planned.{Planned}
@@ -21,6 +21,7 @@ Leads planned (Capable.Sets rd v) = planned ≡ Planned.Does (Effect.General rd 
 Leads planned (Capable.Puts cd c) = planned ≡ Planned.Does (Effect.Capability cd c)
 Leads planned Capable.Other = Unit {0}
 
--- whatever the other operands
-abbrev pub Derives : Instr → ℕ → Cap → Named → ℕ → Capable → Type 0
-Derives i cd pcc cb rt r = (o : Operands) → o .n20 ≡ cd → o .pcc ≡ pcc → o .c15 ≡ cb → o .g10 ≡ rt → Leads (settle (planOf o i)) r
+-- whatever the other operands, and whatever a branch would count
+abbrev pub Derives : ℕ → ℕ → Cap → Named → ℕ → Capable → Type 0
+Derives w cd pcc cb rt r =
+    (o : Operands) (count : ℕ) → o .n20 ≡ cd → o .pcc ≡ pcc → o .c15 ≡ cb → o .g10 ≡ rt → Leads (settle (planOf o (capabilityWord w count))) r

@@ -1,7 +1,6 @@
 // Instructions that derive a capability register from the one at 15..11, carried out on the values that their words name.
 use cap::Cap;
 use checks::Named;
-use isa::Instr;
 use num::Offset;
 ghost use mathlib.Core.Path.{_≡_};
 ghost use Rattle.deriving.specs.Deriving.{putsWhere, Derives};
@@ -23,23 +22,26 @@ fn puts(passes: bool, cd: u8, c: Cap) -> Capable
     Capable::Other
 }
 
-// What the instruction writes, on the registers at 15..11 and 10..6; where the first is not free it may say Other though it would go on.
-pub fn derived(i: Instr, cd: u8, pcc: Cap, cb: Named, rt: u64) -> Capable
-    ensures { λ r. ⌜ Derives i cd pcc cb rt r ⌝ }
+// What the instruction of a word of major opcode 18 writes, on the registers at 15..11 and 10..6. It is told by the word, not decoded
+// first, so that one jump leads to it; where the first register is not free it may say Other though it would go on.
+pub fn derived(word: u32, cd: u8, pcc: Cap, cb: Named, rt: u64) -> Capable
+    ensures { λ r. ⌜ Derives word cd pcc cb rt r ⌝ }
 {
     let c = cb.cap;
     let to = cap::register_open(pcc.perms, cd);
     let opens = checks::both(to, cap::register_open(pcc.perms, cb.number));
-    let movable = checks::both(opens, !checks::both(c.tag, c.sealed));
-    let free = checks::both(opens, checks::both(c.tag, !c.sealed));
+    let two = checks::both(opens, word % 0x800 == 0);
+    let three = checks::both(opens, word % 0x40 == 0);
+    let movable = checks::both(three, !checks::both(c.tag, c.sealed));
+    let free = checks::both(three, checks::both(c.tag, !c.sealed));
     let shorter = checks::both(free, rt <= c.length);
-    match i {
-        Instr::AndPerm => puts(free, cd, narrow::and_perms(c, rt)),
-        Instr::ClearTag => puts(opens, cd, narrow::clear_tag(c)),
-        Instr::IncBase => puts(shorter, cd, narrow::inc_base(c, rt)),
-        Instr::SetLength => puts(shorter, cd, narrow::set_length(c, rt)),
-        Instr::SetOffset => puts(movable, cd, narrow::set_offset(c, Offset(rt))),
-        Instr::IncOffset => puts(movable, cd, narrow::inc_offset(c, rt)),
+    match word / 0x20_0000 % 32 {
+        10 => puts(free, cd, narrow::and_perms(c, rt)),
+        11 => puts(two, cd, narrow::clear_tag(c)),
+        12 => puts(shorter, cd, narrow::inc_base(c, rt)),
+        13 => puts(shorter, cd, narrow::set_length(c, rt)),
+        14 => puts(movable, cd, narrow::set_offset(c, Offset(rt))),
+        15 => puts(movable, cd, narrow::inc_offset(c, rt)),
         _ => Capable::Other,
     }
 }

@@ -1,6 +1,6 @@
 -- Fetch (01, "Access and fetch").
 use Prim.Native.Nat.{ℕ, _%_, _^_}
-use mathlib.Core.Bool.{Bool, cond, not}
+use mathlib.Core.Bool.{Bool, cond, not, _&&_}
 use mathlib.Core.List.{List}
 use Rattle.mem.specs.declared.Loaded.{Loaded}
 use Rattle.mem.specs.Place.{loadOf}
@@ -8,6 +8,8 @@ use Rattle.cap.specs.declared.Cap.{Cap}
 use Rattle.access.specs.declared.Access.{Access}
 use Rattle.cap.specs.Cap.{permits, EXECUTE}
 use Rattle.access.specs.Access.{accessOf}
+use Rattle.isa.specs.declared.Instr.{Instr}
+use Rattle.isa.specs.Decode.{decodeWord, isJumpWord}
 use Rattle.checks.specs.declared.Fault.{Fault}
 use Rattle.checks.specs.Checks.{lacking, LENGTH, TAG, SEAL, NO-REGISTER}
 use Rattle.fetch.specs.declared.Fetched.{Fetched}
@@ -36,3 +38,8 @@ fetchOf flash ram pcc =
 abbrev pub wordOf : Fetched → ℕ
 wordOf (Fetched.Word w) = w
 wordOf (Fetched.Stops fault) = 0
+
+-- fetch, then 7, then the word's instruction; a reserved one where the step stops before it
+abbrev pub aheadOf : Bool → Fetched → Instr
+aheadOf slot (Fetched.Stops fault) = Instr.Reserved
+aheadOf slot (Fetched.Word w) = cond (slot && isJumpWord w) Instr.Reserved (decodeWord w)

@@ -9,7 +9,8 @@ use checks::TAG;
 use mem::Loaded;
 use num::Size;
 ghost use mathlib.Core.Path.{_≡_};
-ghost use Rattle.fetch.specs.Fetch.{wordIn, fetchOf, wordOf};
+ghost use Rattle.isa.specs.Decode.{decodeWord};
+ghost use Rattle.fetch.specs.Fetch.{wordIn, fetchOf, wordOf, aheadOf};
 
 pub enum Fetched {
     Word(u32),
@@ -53,5 +54,25 @@ pub fn word_of(fetched: Fetched) -> u32
     match fetched {
         Fetched::Word(w) => w,
         Fetched::Stops(_) => 0,
+    }
+}
+
+// A word of a major opcode that no instruction has.
+const RESERVED: u32 = 0x400_0000;
+
+// The word of a step: fetch, then 7, then the word; a reserved one where the step stops before it.
+pub fn ahead(fetched: Fetched, slot: bool) -> u32
+    ensures { λ r. ⌜ decodeWord r ≡ aheadOf slot fetched ⌝ }
+{
+    match fetched {
+        Fetched::Stops(_) => RESERVED,
+        Fetched::Word(w) => {
+            if slot {
+                if isa::is_jump_word(w) {
+                    return RESERVED;
+                }
+            }
+            w
+        }
     }
 }

@@ -8,8 +8,8 @@ use lib.ListN.{getD, set}
 use Rattle.num.specs.declared.Offset.{Offset}
 use Rattle.cap.specs.declared.Cap.{Cap}
 use Rattle.narrow.specs.Narrow.{null, setOffset, incOffset}
-use Rattle.isa.specs.declared.Instr.{Instr}
 use Rattle.isa.specs.Word.{field25, field20, field15, field10}
+use Rattle.isa.specs.Decode.{decodeWord}
 use Rattle.branch.specs.Branch.{branchOffset, branchTo}
 use Rattle.checks.specs.declared.Planned.{Planned}
 use Rattle.checks.specs.Checks.{settle}
@@ -19,13 +19,15 @@ use Rattle.perform.specs.declared.Change.{Change}
 use Rattle.core.specs.declared.Pending.{Pending}
 use Rattle.fetch.specs.declared.Fetched.{Fetched}
 use Rattle.perform.specs.Perform.{toGeneral}
-use Rattle.fetch.specs.Fetch.{fetchOf, wordOf}
+use Rattle.fetch.specs.Fetch.{fetchOf, wordOf, aheadOf}
 use Rattle.core.specs.Registers.{isPending}
-use Rattle.plain.specs.declared.Plain.{Plain}
-use Rattle.plain.specs.Plain.{aheadOf, Does, Untouched, Sees, Means, Plainly}
+use Rattle.special.specs.declared.Plain.{Plain}
+use Rattle.special.specs.Special.{Does, Untouched, Means}
+use Rattle.plain.specs.Plain.{Sees, Plainly}
 use Rattle.plain.proofs.Laws.{ahead-goes}
 use Rattle.deriving.specs.declared.Capable.{Capable}
-use Rattle.capable.specs.Capable.{Shows, Amounts, Capably}
+use Rattle.moving.specs.Moving.{Amounts}
+use Rattle.capable.specs.Capable.{Shows, Capably}
 use Rattle.state.specs.State.{operandsOf, kept, nextPcc, commit}
 use Rattle.state.specs.Steps.{turnAt, ramAt, tagsAt, runFrom}
 use Rattle.glide.specs.Glide.{nextAt, waitingAt, holding, Glides}
@@ -58,16 +60,16 @@ unfolding operandsOf
 shows g caps pcc pending w cause = record { is-n25 = refl; is-n20 = refl; is-g25 = refl; is-g15 = refl; is-g10 = refl; is-pcc = refl; is-c25 = refl; is-c20 = refl; is-c15 = refl }
 
 -- what the code hands over is what the word names
-module _ (flash g : List ℕ) (caps : List Cap) (pcc : Cap) (pending : Pending) (ram tags ram′ tags′ : List ℕ) (here : Cap) (fetched : Fetched) (w : ℕ) (i : Instr) (slot : Bool) (i25 i20 i15 : ℕ)
-    (fh : here ≡ pcc) (f : fetched ≡ fetchOf flash ram here) (fw : w ≡ wordOf fetched) (fs : slot ≡ isPending pending) (fi : i ≡ aheadOf slot fetched) (f25 : i25 ≡ field25 w) (f20 : i20 ≡ field20 w) (f15 : i15 ≡ field15 w) where
-  pub told : (r : Plain) → Plainly i i20 i15 (getD g i25 0) (getD g i20 0) (getD caps 0 null) flash ram tags ram′ tags′ r → Tells flash g caps pcc pending ram tags ram′ tags′ r
+module _ (flash g : List ℕ) (caps : List Cap) (pcc : Cap) (pending : Pending) (ram tags ram′ tags′ : List ℕ) (here : Cap) (fetched : Fetched) (w i : ℕ) (slot : Bool) (i25 i20 i15 : ℕ)
+    (fh : here ≡ pcc) (f : fetched ≡ fetchOf flash ram here) (fw : w ≡ wordOf fetched) (fs : slot ≡ isPending pending) (fi : decodeWord i ≡ aheadOf slot fetched) (f25 : i25 ≡ field25 w) (f20 : i20 ≡ field20 w) (f15 : i15 ≡ field15 w) where
+  pub told : (r : Plain) → Plainly (decodeWord i) i20 i15 (getD g i25 0) (getD g i20 0) (getD caps 0 null) flash ram tags ram′ tags′ r → Tells flash g caps pcc pending ram tags ram′ tags′ r
   told r did = record {
     tells = λ cause.
         (rw (fi, fs, f25, f20, f15, fw, f, fh) at did) (here-operands flash ram g caps pcc pending cause) (sees g caps pcc pending (wordOf (fetchOf flash ram pcc)) cause);
   }
 
   pub added : (ram₁ tags₁ : List ℕ) (i10 : ℕ) (r : Capable) → Untouched ram tags ram₁ tags₁ → i10 ≡ field10 w
-      → Capably i i25 i20 (getD g i25 0) (getD g i15 0) (getD g i10 0) here (getD caps i25 null) (record { cap = getD caps i20 null; number = i20 }) (record { cap = getD caps i15 null; number = i15 }) flash ram₁ tags₁ ram′ tags′ r
+      → Capably (decodeWord i) i25 i20 (getD g i25 0) (getD g i15 0) (getD g i10 0) here (getD caps i25 null) (record { cap = getD caps i20 null; number = i20 }) (record { cap = getD caps i15 null; number = i15 }) flash ram₁ tags₁ ram′ tags′ r
       → Adds flash g caps pcc pending ram tags ram′ tags′ r
   added ram₁ tags₁ i10 r u f10 did = record {
     adds = λ cause.

@@ -4,7 +4,7 @@ use checks::Named;
 use core::Pending;
 use deriving::Capable;
 use num::Offset;
-use plain::Plain;
+use special::Plain;
 ghost use mathlib.Core.Path.{_≡_};
 ghost use mathlib.Core.List.{List};
 ghost use Prim.Native.Nat.{ℕ, _≤_};
@@ -73,7 +73,7 @@ fn slide(
         let here = narrow::set_offset(pcc, at);
         let fetched = fetch::fetch(flash, ram, here);
         let w = fetch::word_of(fetched);
-        let i = plain::ahead(fetched, slot);
+        let i = fetch::ahead(fetched, slot);
         let n25 = isa::field_25(w);
         let i25 = n25 as usize;
         let n20 = isa::field_20(w);

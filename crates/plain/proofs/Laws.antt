@@ -33,7 +33,9 @@ use Rattle.perform.specs.declared.Turn.{Turn}
 use Rattle.fetch.specs.declared.Fetched.{Fetched}
 use Rattle.perform.specs.Perform.{toGeneral, turnOf, ramOf, tagsOf}
 use Rattle.perform.specs.Act.{plannedOf, doneTurn}
-use Rattle.plain.specs.Plain.{aheadOf, Does, Sees, Means, setsLoaded, setsStored, branchesBy}
+use Rattle.special.specs.Special.{Does, Means}
+use Rattle.fetch.specs.Fetch.{aheadOf}
+use Rattle.plain.specs.Plain.{Sees, setsLoaded, setsStored, branchesBy}
 use Rattle.data.specs.Data.{Reaches, extendedIn, loadedAt, storedAt, storesRam, storesTags}
 use Rattle.data.proofs.Reaches.{planned-reached}
 

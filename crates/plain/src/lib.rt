@@ -1,34 +1,13 @@
 // Instructions that look at no capability register but C0, carried out on the values that their words name.
 use cap::Cap;
-use fetch::Fetched;
-use isa::Instr;
+use isa::Alu;
 use mem::Loaded;
 use num::Size;
+use special::Plain;
 use store::Stored;
 ghost use mathlib.Core.Path.{_≡_};
-ghost use Rattle.plain.specs.Plain.{aheadOf, setsLoaded, setsStored, branchesBy, Plainly};
-
-// What such an instruction writes; Other for any other, and where it would stop: then nothing was done.
-pub enum Plain {
-    Sets(u8, u64),
-    Jumps(u64),
-    Other,
-}
-
-// The instruction of a step: fetch, then 7, then the word's; a reserved one where the step stops before it.
-pub fn ahead(fetched: Fetched, slot: bool) -> Instr
-    ensures { λ r. ⌜ r ≡ aheadOf slot fetched ⌝ }
-{
-    match fetched {
-        Fetched::Stops(_) => Instr::Reserved,
-        Fetched::Word(w) => {
-            if checks::both(slot, isa::is_jump_word(w)) {
-                return Instr::Reserved;
-            }
-            decode::decode(w)
-        }
-    }
-}
+ghost use Rattle.isa.specs.Decode.{decodeWord};
+ghost use Rattle.plain.specs.Plain.{setsLoaded, setsStored, branchesBy, Plainly};
 
 fn sets_loaded(rd: u8, loaded: Loaded) -> Plain
     ensures { λ r. ⌜ r ≡ setsLoaded rd loaded ⌝ }
@@ -58,10 +37,10 @@ fn branches(taken: bool, words: u64) -> Plain
     Plain::Sets(0, 0)
 }
 
-// What the instruction writes, on the registers at 25..21 and 20..16, and C0. The common size stands by itself: its eight bytes are then
-// one number to the compiler.
+// What the word's instruction writes, on the registers at 25..21 and 20..16, and C0. It is told by the word, not decoded first, so
+// that one jump leads to it, and an access's size is known to the compiler.
 pub fn plainly(
-    i: Instr,
+    word: u32,
     n20: u8,
     n15: u8,
     g25: u64,
@@ -71,27 +50,33 @@ pub fn plainly(
     ram: &mut [u8],
     tags: &mut [u8],
 ) -> Plain
-    ensures { λ r. ⌜ Plainly i n20 n15 g25 g20 c0 (now (flash .entry)) (now (ram .entry)) (now (tags .entry)) (now (ram .exit)) (now (tags .exit)) r ⌝ }
+    ensures { λ r. ⌜ Plainly (decodeWord word) n20 n15 g25 g20 c0 (now (flash .entry)) (now (ram .entry)) (now (tags .entry)) (now (ram .exit)) (now (tags .exit)) r ⌝ }
 {
-    match i {
-        Instr::Nop => Plain::Sets(0, 0),
-        Instr::Compute(op) => Plain::Sets(n15, compute::compute(op, g25, g20)),
-        Instr::ComputeImmediate(op, x) => Plain::Sets(n20, compute::compute(op, g25, x)),
-        Instr::Lui(x) => Plain::Sets(n20, x),
-        Instr::Branch(equal, x) => branches(branch::is_wanted(equal, g25 == g20), x),
-        Instr::LoadByC0(size, x) => {
-            let at = data::reached(cap::LOAD, size, x, true, c0, g25);
-            match size {
-                Size::Eight => sets_loaded(n20, data::loaded(at, Size::Eight, false, flash, ram)),
-                _ => sets_loaded(n20, data::loaded(at, size, false, flash, ram)),
-            }
+    let low = (word % 0x1_0000) as u64;
+    let x = immediate::signed_16(word);
+    match word / 0x400_0000 {
+        0x00 => special::special(word, n15, g25, g20),
+        0x04 => branches(branch::is_wanted(true, g25 == g20), x),
+        0x05 => branches(branch::is_wanted(false, g25 == g20), x),
+        0x0c => Plain::Sets(n20, compute::compute(Alu::And, g25, low)),
+        0x0d => Plain::Sets(n20, compute::compute(Alu::Or, g25, low)),
+        0x0f => special::sets(word / 0x20_0000 % 32 == 0, n20, immediate::upper(word)),
+        0x19 => Plain::Sets(n20, compute::compute(Alu::Daddu, g25, x)),
+        0x24 => {
+            let at = data::reached(cap::LOAD, Size::One, x, true, c0, g25);
+            sets_loaded(n20, data::loaded(at, Size::One, false, flash, ram))
         }
-        Instr::StoreByC0(size, x) => {
-            let at = data::reached(cap::STORE, size, x, true, c0, g25);
-            match size {
-                Size::Eight => sets_stored(data::stored(at, Size::Eight, g20, flash, ram, tags)),
-                _ => sets_stored(data::stored(at, size, g20, flash, ram, tags)),
-            }
+        0x28 => {
+            let at = data::reached(cap::STORE, Size::One, x, true, c0, g25);
+            sets_stored(data::stored(at, Size::One, g20, flash, ram, tags))
+        }
+        0x37 => {
+            let at = data::reached(cap::LOAD, Size::Eight, x, true, c0, g25);
+            sets_loaded(n20, data::loaded(at, Size::Eight, false, flash, ram))
+        }
+        0x3f => {
+            let at = data::reached(cap::STORE, Size::Eight, x, true, c0, g25);
+            sets_stored(data::stored(at, Size::Eight, g20, flash, ram, tags))
         }
         _ => Plain::Other,
     }

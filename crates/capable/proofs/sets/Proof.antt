@@ -1,9 +1,0 @@
-use borrow.Author.Needs.{needs}
-use Rattle.capable.proofs.sets.Statement.{statement}
-use Rattle.capable.proofs.sets.Tie as tie
-
-returns : tie.Need-returns
-returns c = rw (c .if1 .taken)
-
-pub sets-spec : {M : Type 1} → statement M
-sets-spec = tie.close (tie.spec returns (λ c. search needs))

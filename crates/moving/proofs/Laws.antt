@@ -1,0 +1,28 @@
+-- The laws of data loads and stores through a capability register. Assumes nothing.
+use Prim.Native.Nat.{ℕ}
+use mathlib.Core.Path.{_≡_, refl}
+use mathlib.Core.Bool.{Bool}
+use mathlib.Core.List.{List}
+use Rattle.num.specs.declared.Size.{Size}
+use Rattle.num.specs.Number.{bytesIn}
+use Rattle.cap.specs.declared.Cap.{Cap}
+use Rattle.cap.specs.Cap.{LOAD, STORE}
+use Rattle.access.specs.declared.Access.{Access}
+use Rattle.checks.specs.declared.Named.{Named}
+use Rattle.checks.specs.declared.Planned.{Planned}
+use Rattle.checks.specs.Checks.{settle}
+use Rattle.transfer.specs.Transfer.{load, store}
+use Rattle.plan.specs.declared.Operands.{Operands}
+use Rattle.data.specs.Data.{Reaches, loadedAt, storedAt, storesRam, storesTags}
+use Rattle.plain.proofs.Laws.{load-does, store-does}
+use Rattle.moving.specs.Moving.{putsLoaded, putsStored, Amounts}
+
+module _ (o : Operands) (planned : Planned) (flash ram tags : List ℕ) where
+  pub load-amounts : (size : Size) (signed : Bool) (x rd : ℕ) (pcc : Cap) (cb : Named) (rt : ℕ) (lies : Access) → planned ≡ settle (load size signed x pcc rd cb rt) → Reaches LOAD pcc cb rt x (bytesIn size) lies
+      → Amounts o planned flash ram tags ram tags (putsLoaded rd (loadedAt flash ram signed size lies))
+  load-amounts size signed x rd pcc cb rt lies p r = load-does o planned flash ram tags (λ l. Amounts o planned flash ram tags ram tags (putsLoaded rd l)) size signed x rd pcc cb rt lies p r (λ v d. d) (refl, refl)
+
+  pub store-amounts : (size : Size) (x v : ℕ) (pcc : Cap) (cb : Named) (rt : ℕ) (lies : Access) → planned ≡ settle (store size x pcc v cb rt) → Reaches STORE pcc cb rt x (bytesIn size) lies
+      → Amounts o planned flash ram tags (storesRam flash ram size v lies) (storesTags flash ram tags size lies) (putsStored (storedAt flash ram size lies))
+  store-amounts size x v pcc cb rt lies p r =
+      store-does o planned flash ram tags (λ s ram′ tags′. Amounts o planned flash ram tags ram′ tags′ (putsStored s)) size x v pcc cb rt lies p r (λ ram′ tags′ d. d) (refl, refl) (refl, refl)
