@@ -9,7 +9,7 @@ use Rattle.record.specs.Record.{refusalNumber}
 use Rattle.enter.specs.Enter.{judged, readBook, verdictNumber}
 use Rattle.answer.specs.declared.Answer.{Answer}
 use Rattle.answer.specs.Answer.{Benched, bookRun}
-use Rattle.taking.specs.Registers.{REGISTERS, registersOf}
+use Rattle.giving.specs.Registers.{REGISTERS, registersOf}
 
 -- 36: what is to be written is longer than the buffer
 abbrev pub NO-ROOM : ℕ

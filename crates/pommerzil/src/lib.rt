@@ -1,28 +1,15 @@
 // The model as a static library for C: numbers and lent buffers in, 01's number out. include/pommerzil.h is its header.
 use answer::Answer;
-use cap::Cap;
-use compose::CAP_RECORD;
-use compose::GENERAL_RECORD;
-use core::Machine;
-use record::PCC;
+use giving::REGISTERS;
 use record::Refusal;
 ghost use mathlib.Core.Path.{_≡_};
 ghost use Prim.Native.Nat.{_≤_};
 ghost use lib.ListN.{length};
-ghost use Rattle.write.specs.Run.{Runs};
-ghost use Rattle.taking.specs.Registers.{capRecords, generalRecords, registersOf};
 ghost use Rattle.pommerzil.specs.Exported.{over, numbersOf, runInto, readInto};
 ghost use Rattle.taking.specs.Taking.{writeFrom, codeOf, bytesOf};
 
 // The numbers of an answer: stop or refusal, cause code, register, place, steps.
 const ANSWER_NUMBERS: usize = 5;
-
-// Where the records of PCC and of general register 1 stand among the registers, and where the last one ends.
-const PCC_RECORD: usize = 1217;
-
-const GENERAL_RECORDS: usize = 1255;
-
-const REGISTERS: usize = 1627;
 
 fn put_answer(a: Answer, answer: &mut [u64])
     requires { ⌜ 5 ≤ length (now answer) ⌝ }
@@ -58,44 +45,6 @@ pub extern "C" fn pommerzil_run(
     a.stop
 }
 
-// C0 to C31, one record each.
-fn put_caps(caps: [Cap; 32], out: &mut [u8])
-    ensures { λ _. ⌜ Runs (now (out .entry)) 1 (capRecords caps) (now (out .exit)) 1217 ⌝ }
-{
-    let mut i = 0;
-    while i < 32 {
-        let c = caps[i];
-        compose::put_cap(out, 1 + CAP_RECORD * i, i as u8, c);
-        i += 1;
-    }
-}
-
-// General registers 1 to 31, one record each.
-fn put_generals(general: [u64; 32], out: &mut [u8])
-    ensures { λ _. ⌜ Runs (now (out .entry)) 1255 (generalRecords general) (now (out .exit)) 1627 ⌝ }
-{
-    let mut i = 0;
-    while i < 31 {
-        let at = GENERAL_RECORDS + GENERAL_RECORD * i;
-        i += 1;
-        compose::put_general(out, at, i as u8, general[i]);
-    }
-}
-
-// Every register of a machine, zero or not.
-fn put_registers(m: Machine, out: &mut [u8])
-    requires { ⌜ 1627 ≤ length (now out) ⌝ }
-    ensures { λ _. ⌜ now (out .exit) ≡ over (registersOf m) (now (out .entry)) ⌝ }
-{
-    let caps = m.caps;
-    let pcc = m.pcc;
-    let general = m.general;
-    store::put_be(out, 0, 1, 1);
-    put_caps(caps, out);
-    compose::put_cap(out, PCC_RECORD, PCC, pcc);
-    put_generals(general, out);
-}
-
 // Reads a book: 0 or the refusal, the registers that it gives in `registers`, and its RAM and its tags.
 #[no_mangle]
 pub extern "C" fn pommerzil_read(
@@ -116,7 +65,7 @@ pub extern "C" fn pommerzil_read(
     let started = enter::read_book(book, flash, ram, tags);
     let verdict = started.verdict;
     let m = started.machine;
-    put_registers(m, registers);
+    giving::put_registers(m, registers);
     enter::verdict_number(verdict)
 }
 

@@ -18,7 +18,7 @@ use Rattle.reread.proofs.Again.{read-accepted, omitting-read}
 use Rattle.granted.proofs.Sound.{Registers}
 use Rattle.granted.proofs.Read.{read-sound}
 use Rattle.granted.proofs.Accepted.{accepted}
-use Rattle.taking.specs.Registers.{capRecords, generalRecords, registersOf}
+use Rattle.giving.specs.Registers.{capRecords, generalRecords, registersOf}
 use Rattle.taking.specs.Taking.{writtenBy, writeFrom}
 use Rattle.taking.specs.Claims.{HandedOutIsTaken}
 use Rattle.taking.proofs.Given.{Given, zero-given, all-given}

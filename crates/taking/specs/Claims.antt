@@ -7,7 +7,7 @@ use Rattle.num.specs.Number.{Bytes}
 use Rattle.book.specs.declared.Verdict.{Verdict}
 use Rattle.enter.specs.Enter.{judged, readBook}
 use Rattle.write.specs.Write.{writeBook}
-use Rattle.taking.specs.Registers.{registersOf}
+use Rattle.giving.specs.Registers.{registersOf}
 use Rattle.taking.specs.Taking.{writeFrom}
 
 -- of every book that is accepted, beside whatever RAM, tags and buffer: the registers that were handed out are written as the machine that was read

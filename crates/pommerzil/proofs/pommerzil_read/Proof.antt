@@ -2,7 +2,7 @@ use mathlib.Core.Path.{refl}
 use Rattle.num.proofs.Calls.{asks}
 use borrow.Author.Needs.{needs}
 use borrow.Author.Tests.{lt-leb}
-use Rattle.taking.specs.Registers.{REGISTERS}
+use Rattle.giving.specs.Registers.{REGISTERS}
 use Rattle.pommerzil.specs.Exported.{readInto}
 use Rattle.pommerzil.proofs.Laws.{started}
 use Rattle.pommerzil.proofs.pommerzil_read.Statement.{statement}

@@ -13,10 +13,10 @@ use Rattle.compose.proofs.Fields.{cap-bytes}
 use Rattle.write.specs.Run.{Runs}
 use Rattle.write.specs.Write.{pieces}
 use Rattle.write.proofs.Pieces.{run-begins}
-use Rattle.taking.specs.Registers.{capRecords}
-use Rattle.pommerzil.proofs.Registers.{even-next}
-use Rattle.pommerzil.proofs.put_caps.Statement.{statement}
-use Rattle.pommerzil.proofs.put_caps.Tie as tie
+use Rattle.giving.specs.Registers.{capRecords}
+use Rattle.giving.proofs.Registers.{even-next}
+use Rattle.giving.proofs.put_caps.Statement.{statement}
+use Rattle.giving.proofs.put_caps.Tie as tie
 
 abbrev piece : List Cap → ℕ → List ℕ
 piece caps = λ i. recordOf (capBody i (getD caps i null))

@@ -11,10 +11,10 @@ use Rattle.compose.proofs.Fields.{general-bytes}
 use Rattle.write.specs.Run.{Runs}
 use Rattle.write.specs.Write.{pieces}
 use Rattle.write.proofs.Pieces.{run-begins}
-use Rattle.taking.specs.Registers.{generalRecords}
-use Rattle.pommerzil.proofs.Registers.{even-next}
-use Rattle.pommerzil.proofs.put_generals.Statement.{statement}
-use Rattle.pommerzil.proofs.put_generals.Tie as tie
+use Rattle.giving.specs.Registers.{generalRecords}
+use Rattle.giving.proofs.Registers.{even-next}
+use Rattle.giving.proofs.put_generals.Statement.{statement}
+use Rattle.giving.proofs.put_generals.Tie as tie
 
 abbrev piece : List ℕ → ℕ → List ℕ
 piece general = λ i. recordOf (generalBody i (getD general i 0))
