@@ -1,4 +1,4 @@
-// One record of a start book as its writer spells it (01, "The start book").
+// The records of a start book as its writer spells them: whether there is one, and that of a line (01, "The start book").
 use cap::Cap;
 ghost use mathlib.Core.Path.{_≡_};
 ghost use mathlib.Core.Bool.{Bool};
@@ -6,13 +6,9 @@ ghost use Prim.Native.Nat.{ℕ, _+_};
 ghost use lib.ListN.{length};
 ghost use lib.Dec.{leb};
 ghost use Rattle.store.specs.Store.{put};
-ghost use Rattle.compose.specs.Compose.{recordOf, capBody, generalBody, lineBody, zeroCap, zeroBytes};
+ghost use Rattle.compose.specs.Compose.{recordOf, lineBody, zeroCap, zeroBytes};
 
-// The bytes of a record of kind 1 and of kind 2, and those of kind 3 before the line's own.
-pub const CAP_RECORD: usize = 38;
-
-pub const GENERAL_RECORD: usize = 12;
-
+// The bytes of a record of kind 3 before the line's own.
 pub const LINE_HEAD: usize = 12;
 
 // Whether every field of a register is zero: the writer does not name it.
@@ -53,7 +49,7 @@ fn copy(part: &mut [u8], bytes: &[u8])
 }
 
 // Whether `size` bytes at `at` lie within `len` bytes.
-fn has_room(at: usize, size: usize, len: usize) -> bool
+pub fn has_room(at: usize, size: usize, len: usize) -> bool
     ensures { λ r. ⌜ r ≡ leb (at + size) len ⌝ }
 {
     if size <= len {
@@ -71,37 +67,6 @@ fn put_bytes(out: &mut [u8], at: usize, bytes: &[u8])
     if has_room(at, bytes.len(), out.len()) {
         let e = at + bytes.len();
         copy(&mut out[at..e], bytes);
-    }
-}
-
-// Kind 1: a capability register, or PCC; nothing where the record does not fit.
-pub fn put_cap(out: &mut [u8], at: usize, number: u8, c: Cap)
-    ensures { λ _. ⌜ now (out .exit) ≡ put (now (out .entry)) at (recordOf (capBody number c)) ⌝ }
-{
-    if has_room(at, CAP_RECORD, out.len()) {
-        store::put_be(out, at, 2, 36);
-        store::put_be(out, at + 2, 1, 1);
-        store::put_be(out, at + 3, 1, number as u64);
-        store::put_be(out, at + 4, 1, store::tag_byte(c.tag) as u64);
-        store::put_be(out, at + 5, 1, store::tag_byte(c.sealed) as u64);
-        store::put_be(out, at + 6, 1, c.spare as u64);
-        store::put_be(out, at + 7, 3, c.otype as u64);
-        store::put_be(out, at + 10, 4, c.perms as u64);
-        store::put_be(out, at + 14, 8, c.base.0);
-        store::put_be(out, at + 22, 8, c.length);
-        store::put_be(out, at + 30, 8, c.offset.0);
-    }
-}
-
-// Kind 2: a general register; nothing where the record does not fit.
-pub fn put_general(out: &mut [u8], at: usize, number: u8, value: u64)
-    ensures { λ _. ⌜ now (out .exit) ≡ put (now (out .entry)) at (recordOf (generalBody number value)) ⌝ }
-{
-    if has_room(at, GENERAL_RECORD, out.len()) {
-        store::put_be(out, at, 2, 10);
-        store::put_be(out, at + 2, 1, 2);
-        store::put_be(out, at + 3, 1, number as u64);
-        store::put_be(out, at + 4, 8, value);
     }
 }
 

@@ -1,8 +1,8 @@
 // Every register of a machine as bytes, for a reader outside.
 use cap::Cap;
-use compose::CAP_RECORD;
-use compose::GENERAL_RECORD;
 use core::Machine;
+use inscribe::CAP_RECORD;
+use inscribe::GENERAL_RECORD;
 use record::PCC;
 ghost use mathlib.Core.Path.{_≡_};
 ghost use Rattle.store.specs.Store.{put};
@@ -23,7 +23,7 @@ fn put_caps(caps: [Cap; 32], out: &mut [u8])
     let mut i = 0;
     while i < 32 {
         let c = caps[i];
-        compose::put_cap(out, 1 + CAP_RECORD * i, i as u8, c);
+        inscribe::put_cap(out, 1 + CAP_RECORD * i, i as u8, c);
         i += 1;
     }
 }
@@ -36,7 +36,7 @@ fn put_generals(general: [u64; 32], out: &mut [u8])
     while i < 31 {
         let at = GENERAL_RECORDS + GENERAL_RECORD * i;
         i += 1;
-        compose::put_general(out, at, i as u8, general[i]);
+        inscribe::put_general(out, at, i as u8, general[i]);
     }
 }
 
@@ -52,6 +52,6 @@ pub fn put_registers(m: Machine, out: &mut [u8])
     let general = m.general;
     store::put_be(out, 0, 1, 1);
     put_caps(caps, out);
-    compose::put_cap(out, PCC_RECORD, PCC, pcc);
+    inscribe::put_cap(out, PCC_RECORD, PCC, pcc);
     put_generals(general, out);
 }

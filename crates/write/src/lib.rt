@@ -1,10 +1,10 @@
 // The writer of start books (01, "The start book").
 use accept::Verdict;
 use cap::Cap;
-use compose::CAP_RECORD;
-use compose::GENERAL_RECORD;
 use compose::LINE_HEAD;
 use core::Machine;
+use inscribe::CAP_RECORD;
+use inscribe::GENERAL_RECORD;
 use mem::RAM_BASE;
 use num::LINE;
 use record::PCC;
@@ -31,7 +31,7 @@ fn write_cap(number: u8, c: Cap, out: &mut [u8], at: usize) -> usize
     if compose::is_zero(c) {
         return at;
     }
-    compose::put_cap(out, at, number, c);
+    inscribe::put_cap(out, at, number, c);
     at + CAP_RECORD
 }
 
@@ -57,7 +57,7 @@ fn write_general(number: u8, value: u64, out: &mut [u8], at: usize) -> usize
     if value == 0 {
         return at;
     }
-    compose::put_general(out, at, number, value);
+    inscribe::put_general(out, at, number, value);
     at + GENERAL_RECORD
 }
 

@@ -9,10 +9,10 @@ use denote.Ref.{now}
 use lib.ListN.{length}
 use Rattle.store.specs.Store.{bit}
 use Rattle.store.proofs.Stores.{put-out, length-put}
 use Rattle.compose.specs.Compose.{recordOf, capBody}
 use Rattle.compose.proofs.Fields.{after, told, record-put, cap-bytes}
-use Rattle.compose.proofs.put_cap.Statement.{statement}
-use Rattle.compose.proofs.put_cap.Tie as tie
+use Rattle.inscribe.proofs.put_cap.Statement.{statement}
+use Rattle.inscribe.proofs.put_cap.Tie as tie
 
 -- the record ends within a buffer, so within 64 bits
 ends : (c : tie.After-put-be-arg) → c .before .before .before .before .args .at + 38 < 2 ^ 64

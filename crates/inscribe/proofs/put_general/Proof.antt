@@ -9,10 +9,10 @@ use denote.Ref.{now}
 use lib.ListN.{length}
 use Rattle.store.specs.Store.{bit}
 use Rattle.store.proofs.Stores.{put-out, length-put}
 use Rattle.compose.specs.Compose.{recordOf, generalBody}
 use Rattle.compose.proofs.Fields.{record-put, general-bytes}
-use Rattle.compose.proofs.put_general.Statement.{statement}
-use Rattle.compose.proofs.put_general.Tie as tie
+use Rattle.inscribe.proofs.put_general.Statement.{statement}
+use Rattle.inscribe.proofs.put_general.Tie as tie
 
 -- the record ends within a buffer, so within 64 bits
 ends : (c : tie.After-put-be-arg) → c .before .before .before .before .args .at + 12 < 2 ^ 64
