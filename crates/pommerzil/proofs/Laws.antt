@@ -5,16 +5,11 @@ use mathlib.Core.List.{List, [], _∷_, _++_}
 use native.Mathlib.Omega.{arith}
 use borrow.Author.Tests.{le-leb}
 use lib.ListN.{length, drop, set}
-use Rattle.store.specs.Store.{put}
-use Rattle.core.specs.declared.Machine.{Machine}
-use Rattle.book.specs.declared.Verdict.{Verdict}
-use Rattle.enter.specs.Enter.{judged, readBook, verdictNumber}
 use Rattle.write.specs.declared.Written.{Written}
 use Rattle.answer.specs.declared.Answer.{Answer}
 use Rattle.answer.specs.Answer.{bookRun}
-use Rattle.giving.specs.Registers.{REGISTERS, registersOf}
-use Rattle.giving.proofs.Registers.{registers-front}
-use Rattle.pommerzil.specs.Exported.{ANSWER-NUMBERS, over, numbersOf, runInto, readInto}
+use Rattle.handing.specs.Handing.{over}
+use Rattle.pommerzil.specs.Exported.{ANSWER-NUMBERS, numbersOf, runInto}
 use Rattle.taking.specs.Taking.{codeOf, bytesOf}
 
 -- five numbers at the front of a buffer, one after the other
@@ -38,21 +33,6 @@ module _ (budget : ℕ) (book flash ram tags answer : List ℕ) (room : ANSWER-N
   ran =
       rw (le-leb ANSWER-NUMBERS (length answer) room)
       (ap (λ (x : Answer). x .stop) ea, (er, (et, en ∙ ap (λ (x : Answer). over (numbersOf x) answer) ea)))
-
--- a book that was read, and its registers put
-module _ (book : List ℕ) (flash : ℕ) (ram tags registers : List ℕ) (room : REGISTERS ≤ length registers) (v : Verdict) (m : Machine) (ram′ tags′ registers′ : List ℕ) (code : ℕ)
-    (ev : v ≡ judged book flash (length ram) (length tags))
-    (em : m ≡ readBook book flash ram tags .machine)
-    (er : ram′ ≡ readBook book flash ram tags .ram)
-    (et : tags′ ≡ readBook book flash ram tags .tags)
-    (eg : registers′ ≡ put registers 0 (registersOf m))
-    (ec : code ≡ verdictNumber v) where
-  pub started : (code ≡ readInto book flash ram tags registers .code) × ((ram′ ≡ readInto book flash ram tags registers .ram)
-      × ((tags′ ≡ readInto book flash ram tags registers .tags) × (registers′ ≡ readInto book flash ram tags registers .registers)))
-  unfolding readInto
-  started =
-      rw (le-leb REGISTERS (length registers) room)
-      (ec ∙ ap verdictNumber ev, (er, (et, eg ∙ registers-front m registers room ∙ ap (λ (x : Machine). over (registersOf x) registers) em)))
 
 -- the two numbers that tell an answer of the writer
 pub told : (x y : Written) (code bytes : ℕ) → x ≡ y → code ≡ codeOf x → bytes ≡ bytesOf x → (code ≡ codeOf y) × (bytes ≡ bytesOf y)

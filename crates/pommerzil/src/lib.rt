@@ -1,11 +1,11 @@
 // The model as a static library for C: numbers and lent buffers in, 01's number out. include/pommerzil.h is its header.
 use answer::Answer;
-use giving::REGISTERS;
 use record::Refusal;
 ghost use mathlib.Core.Path.{_≡_};
 ghost use Prim.Native.Nat.{_≤_};
 ghost use lib.ListN.{length};
-ghost use Rattle.pommerzil.specs.Exported.{over, numbersOf, runInto, readInto};
+ghost use Rattle.handing.specs.Handing.{over, readInto};
+ghost use Rattle.pommerzil.specs.Exported.{numbersOf, runInto};
 ghost use Rattle.taking.specs.Taking.{writeFrom, codeOf, bytesOf};
 
 // The numbers of an answer: stop or refusal, cause code, register, place, steps.
@@ -59,14 +59,7 @@ pub extern "C" fn pommerzil_read(
     ensures tags { λ _. ⌜ now (tags .exit) ≡ readInto (now (book .entry)) flash (now (ram .entry)) (now (tags .entry)) (now (registers .entry)) .tags ⌝ }
     ensures registers { λ _. ⌜ now (registers .exit) ≡ readInto (now (book .entry)) flash (now (ram .entry)) (now (tags .entry)) (now (registers .entry)) .registers ⌝ }
 {
-    if registers.len() < REGISTERS {
-        return record::refusal_number(Refusal::Room);
-    }
-    let started = enter::read_book(book, flash, ram, tags);
-    let verdict = started.verdict;
-    let m = started.machine;
-    giving::put_registers(m, registers);
-    enter::verdict_number(verdict)
+    handing::read_into(book, flash, ram, tags, registers)
 }
 
 // Writes a book: 0 or the refusal, the book from byte 0 of `book` on, and in `written` how many bytes it has.

@@ -3,10 +3,10 @@ use Rattle.num.proofs.Calls.{asks}
 use borrow.Author.Needs.{needs}
 use borrow.Author.Tests.{lt-leb}
 use Rattle.giving.specs.Registers.{REGISTERS}
-use Rattle.pommerzil.specs.Exported.{readInto}
-use Rattle.pommerzil.proofs.Laws.{started}
-use Rattle.pommerzil.proofs.pommerzil_read.Statement.{statement}
-use Rattle.pommerzil.proofs.pommerzil_read.Tie as tie
+use Rattle.handing.specs.Handing.{readInto}
+use Rattle.handing.proofs.Laws.{started}
+use Rattle.handing.proofs.read_into.Statement.{statement}
+use Rattle.handing.proofs.read_into.Tie as tie
 
 returns : tie.Need-returns
 unfolding readInto
@@ -19,8 +19,8 @@ returns-2 c =
     let read = k .read-book .ensures in
     started _ _ _ _ _ (k .before .before .before .if1 .left) _ _ _ _ _ _ (read .0) (read .1 .0) (read .1 .1 .0) (read .1 .1 .1) (p .put-registers .ensures) (c .verdict-number .ensures)
 
-pub pommerzil-read-spec : {M : Type 1} → statement M
-pommerzil-read-spec =
+pub read-into-spec : {M : Type 1} → statement M
+read-into-spec =
     tie.close
     (tie.spec
     asks
