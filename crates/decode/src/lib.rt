@@ -78,10 +78,7 @@ pub fn decode(word: u32) -> Instr
         0x05 => Instr::Branch(false, signed),
         0x0c => Instr::ComputeImmediate(Alu::And, low),
         0x0d => Instr::ComputeImmediate(Alu::Or, low),
-        0x0f => isa::if_zero(
-            word / 0x20_0000 % 32,
-            Instr::Lui(immediate::upper(word)),
-        ),
+        0x0f => isa::if_zero(word / 0x20_0000 % 32, Instr::Lui(immediate::upper(word))),
         18 => capability::capability(word, signed),
         0x19 => Instr::ComputeImmediate(Alu::Daddu, signed),
         0x24 => Instr::LoadByC0(Size::One, signed),
