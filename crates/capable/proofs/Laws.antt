@@ -7,7 +7,7 @@ use Rattle.plan.specs.declared.Operands.{Operands}
 use Rattle.perform.specs.Perform.{turnOf, ramOf, tagsOf}
 use Rattle.deriving.specs.declared.Capable.{Capable}
 use Rattle.deriving.specs.Deriving.{Leads}
-use Rattle.moving.specs.Moving.{Amounts}
+use Rattle.special.specs.Special.{Amounts}
 
 module _ (o : Operands) (planned : Planned) (flash ram tags : List ℕ) where
   -- what a derivation answers, and what is planned

@@ -9,7 +9,7 @@ use Rattle.checks.specs.Checks.{settle}
 use Rattle.plan.specs.declared.Operands.{Operands}
 use Rattle.plan.specs.Plan.{planOf}
 use Rattle.deriving.specs.declared.Capable.{Capable}
-use Rattle.moving.specs.Moving.{Amounts}
+use Rattle.special.specs.Special.{Amounts}
 
 -- operands with these parts, whatever their others
 pub record Shows (o : Operands) (n25 n20 g25 g15 g10 : ℕ) (pcc k25 : Cap) (c20 c15 : Named) : Type 0 where

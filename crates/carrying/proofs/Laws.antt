@@ -24,7 +24,8 @@ use Rattle.mem.specs.Place.{placeIn}
 use Rattle.data.specs.Data.{Reaches}
 use Rattle.checks.proofs.Tests.{both-true}
 use Rattle.data.proofs.Reaches.{planned-at, planned-reached}
-use Rattle.moving.specs.Moving.{putsStored, Amounts}
+use Rattle.deriving.specs.Deriving.{putsStored}
+use Rattle.special.specs.Special.{Amounts}
 use Rattle.carrying.specs.Carrying.{putsLine, heldWhere, lineAt, lineStored, lineRam, lineTags}
 
 -- a check that passes

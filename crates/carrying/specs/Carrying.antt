@@ -16,7 +16,7 @@ use Rattle.plan.specs.declared.Operands.{Operands}
 use Rattle.plan.specs.Plan.{planOf}
 use Rattle.mem.specs.Place.{placeIn}
 use Rattle.deriving.specs.declared.Capable.{Capable}
-use Rattle.moving.specs.Moving.{Amounts}
+use Rattle.special.specs.Special.{Amounts}
 
 abbrev pub putsLine : ℕ → LoadedCap → Capable
 putsLine cd (LoadedCap.Value c) = Capable.Puts cd c

@@ -87,5 +87,5 @@ pub fn store(
     let passes = checks::both(cap::register_open(pcc.perms, cs.number), may);
     let opens = cap::register_open(pcc.perms, cb.number);
     let at = data::reached(cap::STORE_CAPABILITY, Size::Line, x, opens, cb.cap, rt);
-    moving::puts_stored(store_line(held(passes, at), cs.cap, flash, ram, tags))
+    deriving::puts_stored(store_line(held(passes, at), cs.cap, flash, ram, tags))
 }

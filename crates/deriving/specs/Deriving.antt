@@ -2,6 +2,7 @@
 use Prim.Native.Nat.{ℕ}
 use mathlib.Core.Path.{_≡_}
 use mathlib.Core.Bool.{Bool, cond}
+use Rattle.store.specs.declared.Stored.{Stored}
 use Rattle.cap.specs.declared.Cap.{Cap}
 use Rattle.isa.specs.Decode.{capabilityWord}
 use Rattle.checks.specs.declared.Named.{Named}
@@ -14,6 +15,11 @@ use Rattle.deriving.specs.declared.Capable.{Capable}
 
 abbrev pub putsWhere : Bool → ℕ → Cap → Capable
 putsWhere passes cd c = cond passes (Capable.Puts cd c) Capable.Other
+
+abbrev pub putsStored : Stored → Capable
+putsStored Stored.Done = Capable.Sets 0 0
+putsStored Stored.Flash = Capable.Other
+putsStored Stored.Nowhere = Capable.Other
 
 -- an answer is what is planned; Other says nothing
 abbrev pub Leads : Planned → Capable → Type 0

@@ -2,8 +2,9 @@
 use cap::Cap;
 use checks::Named;
 use num::Offset;
+use store::Stored;
 ghost use mathlib.Core.Path.{_≡_};
-ghost use Rattle.deriving.specs.Deriving.{putsWhere, Derives};
+ghost use Rattle.deriving.specs.Deriving.{putsWhere, putsStored, Derives};
 
 // What an instruction that looks at capability registers writes: a general or a capability register.
 // Other for any other, and where it would stop: then nothing was done.
@@ -20,6 +21,17 @@ fn puts(passes: bool, cd: u8, c: Cap) -> Capable
         return Capable::Puts(cd, c);
     }
     Capable::Other
+}
+
+// What a store that was carried out leaves.
+pub fn puts_stored(stored: Stored) -> Capable
+    ensures { λ r. ⌜ r ≡ putsStored stored ⌝ }
+{
+    match stored {
+        Stored::Done => Capable::Sets(0, 0),
+        Stored::Flash => Capable::Other,
+        Stored::Nowhere => Capable::Other,
+    }
 }
 
 // What the instruction of a word of major opcode 18 writes, on the registers at 15..11 and 10..6. It is told by the word, not decoded

@@ -22,11 +22,10 @@ use Rattle.perform.specs.Perform.{toGeneral}
 use Rattle.fetch.specs.Fetch.{fetchOf, wordOf, aheadOf}
 use Rattle.core.specs.Registers.{isPending}
 use Rattle.special.specs.declared.Plain.{Plain}
-use Rattle.special.specs.Special.{Does, Untouched, Means}
+use Rattle.special.specs.Special.{Does, Untouched, Means, Amounts}
 use Rattle.plain.specs.Plain.{Sees, Plainly}
 use Rattle.plain.proofs.Laws.{ahead-goes}
 use Rattle.deriving.specs.declared.Capable.{Capable}
-use Rattle.moving.specs.Moving.{Amounts}
 use Rattle.capable.specs.Capable.{Shows, Capably}
 use Rattle.state.specs.State.{operandsOf, kept, nextPcc, commit}
 use Rattle.state.specs.Steps.{turnAt, ramAt, tagsAt, runFrom}

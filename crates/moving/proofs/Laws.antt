@@ -14,8 +14,10 @@ use Rattle.checks.specs.Checks.{settle}
 use Rattle.transfer.specs.Transfer.{load, store}
 use Rattle.plan.specs.declared.Operands.{Operands}
 use Rattle.data.specs.Data.{Reaches, loadedAt, storedAt, storesRam, storesTags}
-use Rattle.plain.proofs.Laws.{load-does, store-does}
-use Rattle.moving.specs.Moving.{putsLoaded, putsStored, Amounts}
+use Rattle.special.proofs.Does.{load-does, store-does}
+use Rattle.deriving.specs.Deriving.{putsStored}
+use Rattle.special.specs.Special.{Amounts}
+use Rattle.moving.specs.Moving.{putsLoaded}
 
 module _ (o : Operands) (planned : Planned) (flash ram tags : List ℕ) where
   pub load-amounts : (size : Size) (signed : Bool) (x rd : ℕ) (pcc : Cap) (cb : Named) (rt : ℕ) (lies : Access) → planned ≡ settle (load size signed x pcc rd cb rt) → Reaches LOAD pcc cb rt x (bytesIn size) lies

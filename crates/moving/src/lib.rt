@@ -5,9 +5,8 @@ use deriving::Capable;
 use isa::Instr;
 use mem::Loaded;
 use num::Size;
-use store::Stored;
 ghost use mathlib.Core.Path.{_≡_};
-ghost use Rattle.moving.specs.Moving.{putsLoaded, putsStored, Loads, Stores};
+ghost use Rattle.moving.specs.Moving.{putsLoaded, Loads, Stores};
 
 fn puts_loaded(rd: u8, loaded: Loaded) -> Capable
     ensures { λ r. ⌜ r ≡ putsLoaded rd loaded ⌝ }
@@ -15,16 +14,6 @@ fn puts_loaded(rd: u8, loaded: Loaded) -> Capable
     match loaded {
         Loaded::Value(v) => Capable::Sets(rd, v),
         Loaded::Nowhere => Capable::Other,
-    }
-}
-
-pub fn puts_stored(stored: Stored) -> Capable
-    ensures { λ r. ⌜ r ≡ putsStored stored ⌝ }
-{
-    match stored {
-        Stored::Done => Capable::Sets(0, 0),
-        Stored::Flash => Capable::Other,
-        Stored::Nowhere => Capable::Other,
     }
 }
 
@@ -78,11 +67,11 @@ pub fn stores(
             match size {
                 Size::Eight => {
                     let at = data::reached(cap::STORE, Size::Eight, x, opens, cb.cap, rt);
-                    puts_stored(data::stored(at, Size::Eight, value, flash, ram, tags))
+                    deriving::puts_stored(data::stored(at, Size::Eight, value, flash, ram, tags))
                 }
                 _ => {
                     let at = data::reached(cap::STORE, size, x, opens, cb.cap, rt);
-                    puts_stored(data::stored(at, size, value, flash, ram, tags))
+                    deriving::puts_stored(data::stored(at, size, value, flash, ram, tags))
                 }
             }
         }

@@ -1,28 +1,20 @@
 -- The laws of the plain instructions: a law for each kind that another function answers for. Assumes nothing.
 use Prim.Native.Nat.{ℕ}
-use mathlib.Core.Path.{_≡_, refl, _∙_}
+use mathlib.Core.Path.{_≡_, refl}
 use mathlib.Core.Bool.{Bool, true, false, cond, _&&_}
 use mathlib.Core.List.{List}
 use native.Mathlib.Omega.{arith}
 use lib.Dec.{eqb}
-use Rattle.num.specs.declared.Address.{Address}
 use Rattle.num.specs.declared.Size.{Size}
-use Rattle.mem.specs.declared.Loaded.{Loaded}
-use Rattle.store.specs.declared.Stored.{Stored}
-use Rattle.mem.specs.declared.Place.{Place}
-use Rattle.mem.specs.declared.Place.the-variants.{Flash, Ram, Nowhere}
-use Rattle.num.specs.Number.{bytesIn, toBe}
-use Rattle.mem.specs.Place.{loadOf, placeIn}
-use Rattle.store.specs.Store.{answerAt, ramAfter, tagsAfter}
+use Rattle.num.specs.Number.{bytesIn}
 use Rattle.cap.specs.declared.Cap.{Cap}
 use Rattle.access.specs.declared.Access.{Access}
 use Rattle.cap.specs.Cap.{LOAD, STORE}
 use Rattle.checks.specs.declared.Named.{Named}
 use Rattle.checks.specs.declared.Fault.{Fault}
-use Rattle.checks.specs.declared.Effect.{Effect}
 use Rattle.checks.specs.declared.Planned.{Planned}
 use Rattle.checks.specs.Checks.{settle}
-use Rattle.transfer.specs.Transfer.{lies, load, store}
+use Rattle.transfer.specs.Transfer.{load, store}
 use Rattle.isa.specs.declared.Instr.{Instr}
 use Rattle.isa.specs.Decode.{decodeWord, isJumpWord}
 use Rattle.branch.specs.Branch.{wanted, branch}
@@ -31,54 +23,23 @@ use Rattle.plan.specs.Plan.{planOf}
 use Rattle.perform.specs.declared.Change.{Change}
 use Rattle.perform.specs.declared.Turn.{Turn}
 use Rattle.fetch.specs.declared.Fetched.{Fetched}
-use Rattle.perform.specs.Perform.{toGeneral, turnOf, ramOf, tagsOf}
+use Rattle.perform.specs.Perform.{turnOf, ramOf, tagsOf}
 use Rattle.perform.specs.Act.{plannedOf, doneTurn}
-use Rattle.special.specs.Special.{Does, Means}
+use Rattle.special.specs.Special.{Means}
+use Rattle.special.proofs.Does.{load-does, store-does}
 use Rattle.fetch.specs.Fetch.{aheadOf}
 use Rattle.plain.specs.Plain.{Sees, setsLoaded, setsStored, branchesBy}
-use Rattle.data.specs.Data.{Reaches, extendedIn, loadedAt, storedAt, storesRam, storesTags}
-use Rattle.data.proofs.Reaches.{planned-reached}
+use Rattle.data.specs.Data.{Reaches, loadedAt, storedAt, storesRam, storesTags}
 
 module _ (o : Operands) (planned : Planned) (flash ram tags : List ℕ) where
-  -- a load that its checks let pass, and what an answer made of the loaded value may say of it
-  load-value : (P : Loaded → Type 0) (size : Size) (signed : Bool) (a : Address) (rd : ℕ) (l : Loaded) → loadOf flash ram a (bytesIn size) ≡ l → planned ≡ Planned.Does (Effect.Load size signed a rd)
-      → ((v : ℕ) → Does o planned flash ram tags ram tags (toGeneral (o .c0 .cap) (o .cause) rd v) → P (Loaded.Value v)) → P Loaded.Nowhere → P (extendedIn signed size l)
-  unfolding turnOf ramOf tagsOf
-  load-value P size signed a rd (Loaded.Value v) e p goes stays = goes _ (rw (p, e) (refl, (refl, refl)))
-  load-value P size signed a rd Loaded.Nowhere e p goes stays = stays
-
-  pub load-does : (P : Loaded → Type 0) (size : Size) (signed : Bool) (x rd : ℕ) (pcc : Cap) (cb : Named) (rt : ℕ) (lies : Access) → planned ≡ settle (load size signed x pcc rd cb rt) → Reaches LOAD pcc cb rt x (bytesIn size) lies
-      → ((v : ℕ) → Does o planned flash ram tags ram tags (toGeneral (o .c0 .cap) (o .cause) rd v) → P (Loaded.Value v)) → P Loaded.Nowhere → P (loadedAt flash ram signed size lies)
-  unfolding load
-  load-does P size signed x rd pcc cb rt (Access.At a) p r goes stays = load-value P size signed a rd (loadOf flash ram a (bytesIn size)) refl (p ∙ planned-reached _ _ _ _ _ _ _ a Fault.Misaligned (λ b. Effect.Load size signed b rd) r refl) goes stays
-  load-does P size signed x rd pcc cb rt Access.Length p r goes stays = stays
-  load-does P size signed x rd pcc cb rt Access.Misaligned p r goes stays = stays
-
-  -- the same of a store, with the RAM and the tags that it leaves
-  store-value : (P : Stored → List ℕ → List ℕ → Type 0) (size : Size) (a : Address) (v : ℕ) (p : Place) → placeIn flash ram a (bytesIn size) ≡ p → planned ≡ Planned.Does (Effect.Store size a v)
-      → ((ram′ tags′ : List ℕ) → Does o planned flash ram tags ram′ tags′ (toGeneral (o .c0 .cap) (o .cause) 0 0) → P Stored.Done ram′ tags′) → P Stored.Flash ram tags → P Stored.Nowhere ram tags
-      → P (answerAt p) (ramAfter p ram (toBe (bytesIn size) v)) (tagsAfter p tags false)
-  unfolding turnOf ramOf tagsOf
-  store-value P size a v (Flash i) e p goes into-flash stays = into-flash
-  store-value P size a v (Ram i) e p goes into-flash stays = goes _ _ (rw (p, e) (refl, (refl, refl)))
-  store-value P size a v Nowhere e p goes into-flash stays = stays
-
-  pub store-does : (P : Stored → List ℕ → List ℕ → Type 0) (size : Size) (x v : ℕ) (pcc : Cap) (cb : Named) (rt : ℕ) (lies : Access) → planned ≡ settle (store size x pcc v cb rt) → Reaches STORE pcc cb rt x (bytesIn size) lies
-      → ((ram′ tags′ : List ℕ) → Does o planned flash ram tags ram′ tags′ (toGeneral (o .c0 .cap) (o .cause) 0 0) → P Stored.Done ram′ tags′) → P Stored.Flash ram tags → P Stored.Nowhere ram tags
-      → P (storedAt flash ram size lies) (storesRam flash ram size v lies) (storesTags flash ram tags size lies)
-  unfolding store
-  store-does P size x v pcc cb rt (Access.At a) p r goes into-flash stays = store-value P size a v (placeIn flash ram a (bytesIn size)) refl (p ∙ planned-reached _ _ _ _ _ _ _ a Fault.StoreMisaligned (λ b. Effect.Store size b v) r refl) goes into-flash stays
-  store-does P size x v pcc cb rt Access.Length p r goes into-flash stays = stays
-  store-does P size x v pcc cb rt Access.Misaligned p r goes into-flash stays = stays
-
   pub load-means : (size : Size) (x rd : ℕ) (pcc : Cap) (cb : Named) (rt : ℕ) (lies : Access) → planned ≡ settle (load size false x pcc rd cb rt) → Reaches LOAD pcc cb rt x (bytesIn size) lies
       → Means o planned flash ram tags ram tags (setsLoaded rd (loadedAt flash ram false size lies))
-  load-means size x rd pcc cb rt lies p r = load-does (λ l. Means o planned flash ram tags ram tags (setsLoaded rd l)) size false x rd pcc cb rt lies p r (λ v d. d) (refl, refl)
+  load-means size x rd pcc cb rt lies p r = load-does o planned flash ram tags (λ l. Means o planned flash ram tags ram tags (setsLoaded rd l)) size false x rd pcc cb rt lies p r (λ v d. d) (refl, refl)
 
   pub store-means : (size : Size) (x v : ℕ) (pcc : Cap) (cb : Named) (rt : ℕ) (lies : Access) → planned ≡ settle (store size x pcc v cb rt) → Reaches STORE pcc cb rt x (bytesIn size) lies
       → Means o planned flash ram tags (storesRam flash ram size v lies) (storesTags flash ram tags size lies) (setsStored (storedAt flash ram size lies))
   store-means size x v pcc cb rt lies p r =
-      store-does (λ s ram′ tags′. Means o planned flash ram tags ram′ tags′ (setsStored s)) size x v pcc cb rt lies p r (λ ram′ tags′ d. d) (refl, refl) (refl, refl)
+      store-does o planned flash ram tags (λ s ram′ tags′. Means o planned flash ram tags ram′ tags′ (setsStored s)) size x v pcc cb rt lies p r (λ ram′ tags′ d. d) (refl, refl) (refl, refl)
 
 module _ (o : Operands) (flash ram tags : List ℕ) (x n20 n15 g25 g20 : ℕ) (c0 : Cap) (s : Sees o n20 n15 g25 g20 c0) where
   pub branch-means : (equal taken : Bool) → taken ≡ wanted equal (eqb g25 g20)

@@ -14,6 +14,7 @@ use Rattle.perform.specs.declared.Change.{Change}
 use Rattle.perform.specs.declared.Turn.{Turn}
 use Rattle.perform.specs.Perform.{toGeneral, toCapability}
 use Rattle.perform.specs.Act.{doneTurn, doneRam, doneTags}
+use Rattle.deriving.specs.declared.Capable.{Capable}
 use Rattle.special.specs.declared.Plain.{Plain}
 
 abbrev pub setsWhere : Bool → ℕ → ℕ → Plain
@@ -34,6 +35,12 @@ Means o planned flash ram tags ram′ tags′ (Plain.Sets rd v) = Does o planned
 Means o planned flash ram tags ram′ tags′ (Plain.Jumps words) =
     Does o planned flash ram tags ram′ tags′ (toCapability (o .cause) 0 (o .c0 .cap) (Pending.Jump (branchTo (o .pcc) words)))
 Means o planned flash ram tags ram′ tags′ Plain.Other = Untouched ram tags ram′ tags′
+
+-- and so does one that may be a capability register's
+abbrev pub Amounts : Operands → Planned → List ℕ → List ℕ → List ℕ → List ℕ → List ℕ → Capable → Type 0
+Amounts o planned flash ram tags ram′ tags′ (Capable.Sets rd v) = Does o planned flash ram tags ram′ tags′ (toGeneral (o .c0 .cap) (o .cause) rd v)
+Amounts o planned flash ram tags ram′ tags′ (Capable.Puts cd c) = Does o planned flash ram tags ram′ tags′ (toCapability (o .cause) cd c Pending.Quiet)
+Amounts o planned flash ram tags ram′ tags′ Capable.Other = Untouched ram tags ram′ tags′
 
 -- the words of major opcode 0 leave memory alone
 abbrev pub Specially : ℕ → ℕ → ℕ → ℕ → Plain → Type 0
