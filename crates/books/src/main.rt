@@ -76,12 +76,10 @@ fn read_case(body: &[u8], book: &mut [u8], ram: &mut [u8], tags: &mut [u8]) {
 
 // The first bytes of `out` read as a book over memories full of other bytes.
 fn read_back(out: &[u8], bytes: usize, ram: &mut [u8], tags: &mut [u8]) {
-    if bytes <= out.len() {
-        pieces::fill(ram, 0xDD);
-        pieces::fill(tags, 1);
-        let started = enter::read_book(&out[..bytes], 0, ram, tags);
-        print_started(started, ram, tags);
-    }
+    pieces::fill(ram, 0xDD);
+    pieces::fill(tags, 1);
+    let started = enter::read_book(tables::part(out, 0, bytes), 0, ram, tags);
+    print_started(started, ram, tags);
 }
 
 fn write_in(body: &[u8], out_at: usize, ram: &mut [u8], tags: &mut [u8], out: &mut [u8]) {
