@@ -207,6 +207,7 @@ fn compare(case: Case) -> Vec<(&'static str, u32)> {
             let lent = Lent { ram: case.ram, tags: case.tags };
             vec![("write", compare_write(&registers_of(&case.machine), &lent, &case.out))]
         }
+        Case::Bench(_) => unreachable!("runs and books alone are made"),
     }
 }
 
