@@ -8,8 +8,7 @@ use Rattle.cap.specs.declared.Cap.{Cap}
 use Rattle.access.specs.declared.Access.{Access}
 use Rattle.cap.specs.Cap.{permits, EXECUTE}
 use Rattle.access.specs.Access.{accessOf}
-use Rattle.isa.specs.declared.Instr.{Instr}
-use Rattle.isa.specs.Decode.{decodeWord, isJumpWord}
+use Rattle.isa.specs.Decode.{isJumpWord}
 use Rattle.checks.specs.declared.Fault.{Fault}
 use Rattle.checks.specs.Checks.{lacking, LENGTH, TAG, SEAL, NO-REGISTER}
 use Rattle.fetch.specs.declared.Fetched.{Fetched}
@@ -39,7 +38,11 @@ abbrev pub wordOf : Fetched → ℕ
 wordOf (Fetched.Word w) = w
 wordOf (Fetched.Stops fault) = 0
 
--- fetch, then 7, then the word's instruction; a reserved one where the step stops before it
-abbrev pub aheadOf : Bool → Fetched → Instr
-aheadOf slot (Fetched.Stops fault) = Instr.Reserved
-aheadOf slot (Fetched.Word w) = cond (slot && isJumpWord w) Instr.Reserved (decodeWord w)
+-- a word of a major opcode that no instruction has
+abbrev pub RESERVED : ℕ
+RESERVED = 2 ^ 26
+
+-- the word of a step: fetch, then 7, then the word; a reserved one where the step stops before it
+abbrev pub aheadOf : Bool → Fetched → ℕ
+aheadOf slot (Fetched.Stops fault) = RESERVED
+aheadOf slot (Fetched.Word w) = cond (slot && isJumpWord w) RESERVED w

@@ -9,7 +9,6 @@ use checks::TAG;
 use mem::Loaded;
 use num::Size;
 ghost use mathlib.Core.Path.{_≡_};
-ghost use Rattle.isa.specs.Decode.{decodeWord};
 ghost use Rattle.fetch.specs.Fetch.{wordIn, fetchOf, wordOf, aheadOf};
 
 pub enum Fetched {
@@ -62,7 +61,7 @@ const RESERVED: u32 = 0x400_0000;
 
 // The word of a step: fetch, then 7, then the word; a reserved one where the step stops before it.
 pub fn ahead(fetched: Fetched, slot: bool) -> u32
-    ensures { λ r. ⌜ decodeWord r ≡ aheadOf slot fetched ⌝ }
+    ensures { λ r. ⌜ r ≡ aheadOf slot fetched ⌝ }
 {
     match fetched {
         Fetched::Stops(_) => RESERVED,

@@ -38,7 +38,7 @@ here-operands flash ram g caps pcc pending cause = operandsOf (holding g caps pc
 
 -- what that step plans
 abbrev here-planned : List ℕ → List ℕ → List ℕ → List Cap → Cap → Pending → ℕ → Planned
-here-planned flash ram g caps pcc pending cause = settle (planOf (here-operands flash ram g caps pcc pending cause) (aheadOf (isPending pending) (fetchOf flash ram pcc)))
+here-planned flash ram g caps pcc pending cause = settle (planOf (here-operands flash ram g caps pcc pending cause) (decodeWord (aheadOf (isPending pending) (fetchOf flash ram pcc))))
 
 -- what an answer of the shorter way says of the step, whatever the cause
 pub record Tells (flash g : List ℕ) (caps : List Cap) (pcc : Cap) (pending : Pending) (ram tags ram′ tags′ : List ℕ) (r : Plain) : Type 0 where
@@ -60,7 +60,7 @@ shows g caps pcc pending w cause = record { is-n25 = refl; is-n20 = refl; is-g25
 
 -- what the code hands over is what the word names
 module _ (flash g : List ℕ) (caps : List Cap) (pcc : Cap) (pending : Pending) (ram tags ram′ tags′ : List ℕ) (here : Cap) (fetched : Fetched) (w i : ℕ) (slot : Bool) (i25 i20 i15 : ℕ)
-    (fh : here ≡ pcc) (f : fetched ≡ fetchOf flash ram here) (fw : w ≡ wordOf fetched) (fs : slot ≡ isPending pending) (fi : decodeWord i ≡ aheadOf slot fetched) (f25 : i25 ≡ field25 w) (f20 : i20 ≡ field20 w) (f15 : i15 ≡ field15 w) where
+    (fh : here ≡ pcc) (f : fetched ≡ fetchOf flash ram here) (fw : w ≡ wordOf fetched) (fs : slot ≡ isPending pending) (fi : i ≡ aheadOf slot fetched) (f25 : i25 ≡ field25 w) (f20 : i20 ≡ field20 w) (f15 : i15 ≡ field15 w) where
   pub told : (r : Plain) → Plainly (decodeWord i) i20 i15 (getD g i25 0) (getD g i20 0) (getD caps 0 null) flash ram tags ram′ tags′ r → Tells flash g caps pcc pending ram tags ram′ tags′ r
   told r did = record {
     tells = λ cause.

@@ -15,8 +15,7 @@ use Rattle.checks.specs.declared.Fault.{Fault}
 use Rattle.checks.specs.declared.Planned.{Planned}
 use Rattle.checks.specs.Checks.{settle}
 use Rattle.transfer.specs.Transfer.{load, store}
-use Rattle.isa.specs.declared.Instr.{Instr}
-use Rattle.isa.specs.Decode.{decodeWord, isJumpWord}
+use Rattle.isa.specs.Decode.{lookup, majors, decodeWord, isJumpWord}
 use Rattle.branch.specs.Branch.{wanted, branch}
 use Rattle.plan.specs.declared.Operands.{Operands}
 use Rattle.plan.specs.Plan.{planOf}
@@ -27,7 +26,7 @@ use Rattle.perform.specs.Perform.{turnOf, ramOf, tagsOf}
 use Rattle.perform.specs.Act.{plannedOf, doneTurn}
 use Rattle.special.specs.Special.{Means}
 use Rattle.special.proofs.Does.{load-does, store-does}
-use Rattle.fetch.specs.Fetch.{aheadOf}
+use Rattle.fetch.specs.Fetch.{RESERVED, aheadOf}
 use Rattle.plain.specs.Plain.{Sees, setsLoaded, setsStored, branchesBy}
 use Rattle.data.specs.Data.{Reaches, loadedAt, storedAt, storesRam, storesTags}
 
@@ -52,15 +51,15 @@ no-turn : (A : Type 0) (f : Fault) (d : Change) → Turn.Stops f ≡ Turn.Next d
 no-turn A f d q = let z : _≡_ {A = ℕ} 0 1 = cc in absurd (omega arith)
 
 -- a jump in a slot has no turn to speak of
-word-goes : (o : Operands) (w : ℕ) (flash ram tags : List ℕ) (d : Change) (jumps : Bool) → doneTurn o flash ram tags (settle (planOf o (cond jumps Instr.Reserved (decodeWord w)))) ≡ Turn.Next d
-    → settle (planOf o (cond jumps Instr.Reserved (decodeWord w))) ≡ cond jumps (Planned.Fails Fault.Pending) (settle (planOf o (decodeWord w)))
-unfolding planOf settle
+word-goes : (o : Operands) (w : ℕ) (flash ram tags : List ℕ) (d : Change) (jumps : Bool) → doneTurn o flash ram tags (settle (planOf o (decodeWord (cond jumps RESERVED w)))) ≡ Turn.Next d
+    → settle (planOf o (decodeWord (cond jumps RESERVED w))) ≡ cond jumps (Planned.Fails Fault.Pending) (settle (planOf o (decodeWord w)))
+unfolding planOf settle lookup majors decodeWord
 word-goes o w flash ram tags d true e = no-turn _ _ _ e
 word-goes o w flash ram tags d false e = refl
 
 -- a turn that goes on: the step has an instruction, and it was this one
-pub ahead-goes : (o : Operands) (slot : Bool) (fetched : Fetched) (flash ram tags : List ℕ) (d : Change) → doneTurn o flash ram tags (settle (planOf o (aheadOf slot fetched))) ≡ Turn.Next d
-    → settle (planOf o (aheadOf slot fetched)) ≡ plannedOf o slot fetched
-unfolding planOf settle plannedOf
+pub ahead-goes : (o : Operands) (slot : Bool) (fetched : Fetched) (flash ram tags : List ℕ) (d : Change) → doneTurn o flash ram tags (settle (planOf o (decodeWord (aheadOf slot fetched)))) ≡ Turn.Next d
+    → settle (planOf o (decodeWord (aheadOf slot fetched))) ≡ plannedOf o slot fetched
+unfolding planOf settle plannedOf lookup majors decodeWord
 ahead-goes o slot (Fetched.Stops f) flash ram tags d e = no-turn _ _ _ e
 ahead-goes o slot (Fetched.Word w) flash ram tags d e = word-goes o w flash ram tags d (slot && isJumpWord w) e

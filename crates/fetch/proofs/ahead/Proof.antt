@@ -1,15 +1,12 @@
 use Rattle.num.proofs.Calls.{asks}
 use borrow.Author.Needs.{needs}
-use Rattle.isa.specs.Decode.{lookup, majors, decodeWord}
 use Rattle.fetch.proofs.ahead.Statement.{statement}
 use Rattle.fetch.proofs.ahead.Tie as tie
 
 returns : tie.Need-returns
-unfolding lookup majors decodeWord
 returns c = rw (c .before .before .before .before .fetched .given .1, c .before .before .if1 .taken, ← c .before .is-jump-word .ensures, c .if2 .taken)
 
 returns-2 : tie.Need-returns-2
-unfolding lookup majors decodeWord
 returns-2 c = rw (c .enum-told .given .1)
 
 returns-3 : tie.Need-returns-3
