@@ -57,7 +57,7 @@ module _ (flash lines : ℕ) (few : lines ≤ 2048) (fit : sizesFit flash (lines
       both _ _ (both _ _ (scan 32 0 (λ i. topFits (getD caps i null)) (λ i h. g .registers .caps i .top))
       (both _ _ (g .registers .pcc .top) (ap jumpFits (g .registers .quiet)))) lines-fit
 
-  widths : ((widthsFit caps && (widthFits (s .machine .pcc) && jumpWidth (s .machine .pending))) && eqb (getD (s .machine .general) 0 0) 0) ≡ true
+  pub widths : ((widthsFit caps && (widthFits (s .machine .pcc) && jumpWidth (s .machine .pending))) && eqb (getD (s .machine .general) 0 0) 0) ≡ true
   widths =
       both _ _ (both _ _ (scan 32 0 (λ i. widthFits (getD caps i null)) (λ i h. g .registers .caps i .width))
       (both _ _ (g .registers .pcc .width) (ap jumpWidth (g .registers .quiet)))) (eq-eqb (getD (s .machine .general) 0 0) 0 (g .registers .first-zero))

@@ -66,7 +66,7 @@ module _ (m : Machine) (g : Given m) (r : Registers m) where
       ∙ ap (λ (s : Start). writeBook (s .machine) ram tags out) (read-again .1)
 
 module _ (book : List ℕ) (flash : ℕ) (ram tags : List ℕ) (h : Bytes book) (e : judged book flash (length ram) (length tags) ≡ Verdict.Accepted) where
-  given : Given (readBook book flash ram tags .machine)
+  pub given : Given (readBook book flash ram tags .machine)
   given =
       rw (read-accepted book flash ram tags e)
       (all-given book (length ram) h (length book) 1 0 0 (stepAt book (length ram) 1 0 0) (bare (replicate (length ram) 0) (replicate (length tags) 0)) refl zero-given)

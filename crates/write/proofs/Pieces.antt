@@ -28,7 +28,7 @@ pieces-suc (suc n) first piece =
     ∙ rw z (sym (append-assoc (piece first) (pieces n (suc first) piece) (piece (first + suc n))))
 
 -- how long they are at most
-pieces-most : (n first most : ℕ) (piece : ℕ → List ℕ) → ((i : ℕ) → length (piece i) ≤ most) → length (pieces n first piece) ≤ n * most
+pub pieces-most : (n first most : ℕ) (piece : ℕ → List ℕ) → ((i : ℕ) → length (piece i) ≤ most) → length (pieces n first piece) ≤ n * most
 unfolding pieces
 pieces-most zero first most piece h = omega arith
 pieces-most (suc n) first most piece h = rw (length-append, suc-mul n most) (omega (arith, h first, pieces-most n (suc first) most piece h))

@@ -1,0 +1,9 @@
+// What include/pommerzil.h says beside each answer: which numbers are returned, and how much room a book needs.
+ghost use Rattle.header.specs.Header.{RunNumbers, ReadNumbers, WriteNumbers, RoomForEvery};
+
+pub fn claims()
+    ensures run_numbers { λ _. ⌜ RunNumbers ⌝ }
+    ensures read_numbers { λ _. ⌜ ReadNumbers ⌝ }
+    ensures write_numbers { λ _. ⌜ WriteNumbers ⌝ }
+    ensures room_for_every { λ _. ⌜ RoomForEvery ⌝ }
+{}
