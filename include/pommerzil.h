@@ -9,14 +9,16 @@
  *
  * Each returns one number: 0, how the run stopped, or why your input was refused (the table below). Each answers every
  * input, with nothing left open: whatever the bytes and the lengths are, the number returned and every byte of every
- * buffer afterwards are those of a short definition (crates/pommerzil/specs), and that is proved for all of them.
+ * buffer afterwards are those of a short definition (crates/pommerzil/specs), and that is proved for all of them. So is
+ * what is said below of the numbers returned and of the room for a book (crates/header/specs).
  *
  * What you owe, since nothing can check it: a pointer and the length after it describe memory that is yours to lend, and a
  * buffer that a function writes (not const) overlaps no other buffer of the same call. Nothing else: there is no wrong
  * book, no wrong length and no wrong budget. A length may be 0; the pointer before it is then not followed, and may be NULL.
  *
  * The library allocates nothing, keeps nothing from one call to the next, has no global state and makes no system call. All
- * buffers stay yours. Calls in different threads do not know of each other. A call takes less than 32 KiB of stack.
+ * buffers stay yours. Calls in different threads do not know of each other. A call takes less than 32 KiB of stack: that
+ * was measured, and is not proved.
  *
  * To build it, on x86-64 Linux (examples/c has a whole program):
  *
