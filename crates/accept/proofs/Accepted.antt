@@ -2,21 +2,21 @@
 use Prim.Native.Nat.{ℕ, zero, suc, _+_, _-_, _*_, _/_, _%_, _^_, _≤_, _<_}
 use mathlib.Core.Path.{_≡_, refl, sym, _∙_, ap, subst}
 use mathlib.Core.Bool.{Bool, true, false, cond, not, _&&_}
-use mathlib.Core.List.{List, [], _∷_, _++_}
+use mathlib.Core.List.{List, []}
 use native.Mathlib.Omega.{arith}
 use lib.Dec.{eqb, leb, ltb}
 use lib.ListN.{length, getD, take, drop, length-drop}
 use lib.Seq.{length-take-le}
 use borrow.Author.Tests.{le-leb, lt-leb, le-ltb, leb-true, ltb-false, not-true, eqb-true, eqb-false}
 use Rattle.mem.specs.Place.{RAM-BASE, memoryFits, tagsFit, placeOf, bytesOf}
-use Rattle.store.specs.Store.{tagOf, tagAt}
+use Rattle.store.specs.Store.{tagOf}
 use Rattle.mem.specs.declared.Place.{Place}
 use Rattle.cap.specs.declared.Cap.{Cap}
 use Rattle.narrow.specs.Narrow.{null}
 use Rattle.line.specs.Line.{fromWords, decode, capIn, loadCap}
 use Rattle.core.specs.declared.Pending.{Pending}
-use Rattle.accept.specs.declared.Refusal.{Refusal}
-use Rattle.accept.specs.declared.Verdict.{Verdict}
+use Rattle.told.specs.declared.Refusal.{Refusal}
+use Rattle.told.specs.declared.Verdict.{Verdict}
 use Rattle.checks.proofs.Tests.{both-true}
 use Rattle.accept.specs.Accept.{every, sizesFit, tagBytesFit, topFits, capsFit, jumpFits, loadedFits, lineAt, lineFits, linesFit, widthFits, widthsFit, jumpWidth, verdictOf}
 

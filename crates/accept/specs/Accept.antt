@@ -3,7 +3,7 @@ use Prim.Native.Nat.{ℕ, zero, suc, _+_, _*_, _%_, _^_}
 use mathlib.Core.Bool.{Bool, true, false, cond, not, _&&_}
 use mathlib.Core.List.{List, []}
 use lib.ListN.{length, getD}
-use lib.Dec.{eqb, leb, ltb}
+use lib.Dec.{eqb, ltb}
 use Rattle.num.specs.declared.Address.{Address}
 use Rattle.mem.specs.Place.{RAM-BASE, memoryFits, tagsFit}
 use Rattle.store.specs.Store.{tagOf}
@@ -13,14 +13,8 @@ use Rattle.cap.specs.Cap.{inWidths}
 use Rattle.line.specs.Line.{loadCap}
 use Rattle.narrow.specs.Narrow.{null}
 use Rattle.core.specs.declared.Pending.{Pending}
-use Rattle.accept.specs.declared.Refusal.{Refusal}
-use Rattle.accept.specs.declared.Verdict.{Verdict}
-
-abbrev pub refusalNumber : Refusal → ℕ
-refusalNumber Refusal.Sizes = 20
-refusalNumber Refusal.TagByte = 21
-refusalNumber Refusal.Top = 22
-refusalNumber Refusal.Width = 24
+use Rattle.told.specs.declared.Refusal.{Refusal}
+use Rattle.told.specs.declared.Verdict.{Verdict}
 
 -- the n numbers from i on all pass
 unfoldable pub every : ℕ → ℕ → (ℕ → Bool) → Bool

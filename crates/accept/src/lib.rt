@@ -5,35 +5,13 @@ use line::LoadedCap;
 use mem::RAM_BASE;
 use num::Address;
 use num::LINE;
+use told::Refusal;
+use told::Verdict;
 ghost use mathlib.Core.Path.{_≡_};
 ghost use mathlib.Core.Bool.{Bool, not, _&&_};
 ghost use Prim.Native.Nat.{ℕ};
 ghost use lib.ListN.{length};
-ghost use Rattle.accept.specs.Accept.{sizesFit, topFits, loadedFits, lineFits, jumpFits, widthFits, jumpWidth, tagBytesFit, linesFit, capsFit, widthsFit, verdictOf, refusalNumber};
-
-// Why a start is refused.
-pub enum Refusal {
-    Sizes,
-    TagByte,
-    Top,
-    Width,
-}
-
-pub enum Verdict {
-    Accepted,
-    Refused(Refusal),
-}
-
-pub fn refusal_number(refusal: Refusal) -> u8
-    ensures { λ r. ⌜ r ≡ refusalNumber refusal ⌝ }
-{
-    match refusal {
-        Refusal::Sizes => 20,
-        Refusal::TagByte => 21,
-        Refusal::Top => 22,
-        Refusal::Width => 24,
-    }
-}
+ghost use Rattle.accept.specs.Accept.{sizesFit, topFits, loadedFits, lineFits, jumpFits, widthFits, jumpWidth, tagBytesFit, linesFit, capsFit, widthsFit, verdictOf};
 
 pub fn sizes_fit(flash: usize, ram: usize, tags: usize) -> bool
     ensures { λ r. ⌜ r ≡ sizesFit flash ram tags ⌝ }

@@ -5,12 +5,13 @@ use mathlib.Core.List.{List}
 use lib.ListN.{length}
 use Rattle.core.specs.declared.Machine.{Machine}
 use Rattle.state.specs.declared.Outcome.{Outcome}
-use Rattle.record.specs.declared.Refusal.{Refusal}
-use Rattle.book.specs.declared.Verdict.{Verdict}
+use Rattle.told.specs.declared.Refusal.{Refusal}
+use Rattle.told.specs.declared.Verdict.{Verdict}
 use Rattle.enter.specs.Enter.{judged, readBook}
 use Rattle.state.specs.Run.{runOf}
-use Rattle.answer.specs.declared.Answer.{Answer}
-use Rattle.answer.specs.Answer.{Benched, answerOf, refusing, bookRun}
+use Rattle.told.specs.declared.Answer.{Answer}
+use Rattle.told.specs.Told.{refusing}
+use Rattle.answer.specs.Answer.{Benched, answerOf, bookRun}
 
 -- an answer and what RAM and tags hold then, taken together
 abbrev pub Gives : Answer → List ℕ → List ℕ → Benched → Type 0

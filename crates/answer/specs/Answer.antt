@@ -4,12 +4,11 @@ use mathlib.Core.List.{List}
 use lib.ListN.{length}
 use Rattle.state.specs.declared.Outcome.{Outcome}
 use Rattle.state.specs.Steps.{Result}
-use Rattle.record.specs.Record.{refusalNumber}
-use Rattle.record.specs.declared.Refusal.{Refusal}
-use Rattle.book.specs.declared.Verdict.{Verdict}
+use Rattle.told.specs.declared.Verdict.{Verdict}
 use Rattle.enter.specs.Enter.{Start, judged, readBook}
 use Rattle.state.specs.Run.{runOf}
-use Rattle.answer.specs.declared.Answer.{Answer}
+use Rattle.told.specs.declared.Answer.{Answer}
+use Rattle.told.specs.Told.{refusing}
 
 -- the answer, and what RAM and tags hold then
 pub record Benched : Type 0 where
@@ -20,10 +19,6 @@ pub record Benched : Type 0 where
 -- stop or refusal, cause code, register, place, steps
 abbrev pub answerOf : Outcome → Answer
 answerOf o = record { stop = o .stop; cause = o .cause; register = o .register; place = o .place; steps = o .steps }
-
--- zeros where they do not apply
-abbrev pub refusing : Refusal → Answer
-refusing refusal = record { stop = refusalNumber refusal; cause = 0; register = 0; place = 0; steps = 0 }
 
 abbrev pub ran : Result → Benched
 ran r = record { answer = answerOf (r .outcome); ram = r .ram; tags = r .tags }

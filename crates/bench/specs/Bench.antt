@@ -4,8 +4,9 @@ use mathlib.Core.Bool.{Bool, cond, _&&_}
 use mathlib.Core.List.{List}
 use lib.ListN.{length}
 use lib.Dec.{eqb, leb}
-use Rattle.record.specs.declared.Refusal.{Refusal}
-use Rattle.answer.specs.Answer.{Benched, refusing, bookRun}
+use Rattle.told.specs.declared.Refusal.{Refusal}
+use Rattle.told.specs.Told.{refusing}
+use Rattle.answer.specs.Answer.{Benched, bookRun}
 
 -- 32,768 bytes of RAM and a budget of 1,000
 abbrev pub BENCH-RAM : ℕ

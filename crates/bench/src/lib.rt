@@ -1,7 +1,7 @@
 // The bench: a start book and a flash with 32,768 bytes of RAM and a budget of 1,000 (01, "Bench examples").
-use answer::Answer;
 use num::LINE;
-use record::Refusal;
+use told::Answer;
+use told::Refusal;
 ghost use mathlib.Core.Path.{_≡_};
 ghost use Rattle.bench.specs.Bench.{benchFits, benchOf};
 
@@ -31,5 +31,5 @@ pub fn bench(book: &[u8], flash: &[u8], ram: &mut [u8], tags: &mut [u8]) -> Answ
     if bench_fits(book.len(), ram.len()) {
         return answer::run_book(book, flash, ram, tags, BUDGET);
     }
-    answer::refusing(Refusal::Sizes)
+    told::refusing(Refusal::Sizes)
 }

@@ -6,14 +6,14 @@ use mathlib.Core.List.{List}
 use native.Mathlib.Omega.{arith}
 use borrow.Author.Tests.{lt-ltb, le-ltb, le-leb, eq-eqb, ne-eqb}
 use lib.ListN.{length, take, drop}
-use Rattle.record.specs.declared.Refusal.{Refusal}
+use Rattle.told.specs.declared.Refusal.{Refusal}
 use Rattle.record.specs.declared.Head.{Head}
 use Rattle.record.specs.declared.Entry.{Entry}
 use Rattle.record.specs.Record.{byte, headAt}
 use Rattle.entry.specs.Entry.{entryOf}
 use Rattle.record.proofs.Laws.{body-fits}
 use Rattle.book.specs.declared.Step.{Step}
-use Rattle.book.specs.declared.Verdict.{Verdict}
+use Rattle.told.specs.declared.Verdict.{Verdict}
 use Rattle.book.specs.Book.{kindOf, keyOf, inOrder, orderedStep, afterEntry, afterHead, stepAt, walk, checkBook}
 
 -- in order, or not

@@ -4,13 +4,13 @@ use mathlib.Core.Bool.{Bool, true, false, cond}
 use mathlib.Core.List.{List}
 use lib.ListN.{length, take, drop}
 use lib.Dec.{eqb, ltb}
-use Rattle.record.specs.declared.Refusal.{Refusal}
+use Rattle.told.specs.declared.Refusal.{Refusal}
 use Rattle.record.specs.declared.Head.{Head}
 use Rattle.record.specs.declared.Entry.{Entry}
 use Rattle.record.specs.Record.{byte, headAt}
 use Rattle.entry.specs.Entry.{entryOf}
 use Rattle.book.specs.declared.Step.{Step}
-use Rattle.book.specs.declared.Verdict.{Verdict}
+use Rattle.told.specs.declared.Verdict.{Verdict}
 
 abbrev pub kindOf : Entry → ℕ
 kindOf (Entry.Capability number c) = 1

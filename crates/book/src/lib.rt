@@ -1,7 +1,8 @@
 // A start book, walked by a reader from record to record: the first that is faulty decides (01, "The start book").
 use record::Entry;
 use record::Head;
-use record::Refusal;
+use told::Refusal;
+use told::Verdict;
 ghost use mathlib.Core.Path.{_≡_};
 ghost use Rattle.book.specs.Book.{kindOf, keyOf, inOrder, orderedStep, afterEntry, stepAt, checkBook};
 
@@ -10,11 +11,6 @@ pub enum Step {
     Done,
     Refused(Refusal),
     More(usize, Entry),
-}
-
-pub enum Verdict {
-    Accepted,
-    Refused(Refusal),
 }
 
 // The kind of a record.

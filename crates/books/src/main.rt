@@ -4,7 +4,7 @@
 // what reading exactly its bytes gives. All but REFUSAL and LENGTH are checksums, as second/src/generate/answers.rs says.
 use enter::Started;
 use libc::STDOUT_FILENO;
-use write::Written;
+use told::Written;
 ghost use mathlib.Core.Path.{_≡_};
 ghost use lib.ListN.{length};
 
@@ -28,7 +28,7 @@ fn print(n: u64, end: u8) {
 fn print_started(started: Started, ram: &[u8], tags: &[u8]) {
     let verdict = started.verdict;
     let m = started.machine;
-    print(enter::verdict_number(verdict) as u64, b' ');
+    print(told::verdict_number(verdict) as u64, b' ');
     print(sums::sum_machine(m), b' ');
     print(sums::sum_bytes(ram), b' ');
     print(sums::sum_bytes(tags), b'\n');
@@ -87,7 +87,7 @@ fn write_in(body: &[u8], out_at: usize, ram: &mut [u8], tags: &mut [u8], out: &m
     let written = write::write_book(tables::machine_in(body, FIRST), ram, tags, out);
     match written {
         Written::Refused(refusal) => {
-            print(record::refusal_number(refusal) as u64, b' ');
+            print(told::refusal_number(refusal) as u64, b' ');
             print(0, b' ');
             print(sums::sum_bytes(out), b'\n');
         }

@@ -9,7 +9,7 @@ use lib.Seq.{length-take-le, take-length}
 use Rattle.store.specs.Store.{put}
 use Rattle.store.proofs.Stores.{put-part}
 use Rattle.core.specs.declared.Machine.{Machine}
-use Rattle.record.specs.declared.Refusal.{Refusal}
+use Rattle.told.specs.declared.Refusal.{Refusal}
 use Rattle.record.specs.declared.Entry.{Entry}
 use Rattle.entry.proofs.Laws.{Fits, entry-fits}
 use Rattle.book.specs.declared.Step.{Step}

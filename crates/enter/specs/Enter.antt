@@ -12,11 +12,10 @@ use Rattle.narrow.specs.Narrow.{null}
 use Rattle.core.specs.declared.Pending.{Pending}
 use Rattle.core.specs.declared.Machine.{Machine}
 use Rattle.accept.specs.Accept.{sizesFit}
-use Rattle.record.specs.declared.Refusal.{Refusal}
+use Rattle.told.specs.declared.Refusal.{Refusal}
 use Rattle.record.specs.declared.Entry.{Entry}
-use Rattle.record.specs.Record.{refusalNumber}
 use Rattle.book.specs.declared.Step.{Step}
-use Rattle.book.specs.declared.Verdict.{Verdict}
+use Rattle.told.specs.declared.Verdict.{Verdict}
 use Rattle.book.specs.Book.{kindOf, keyOf, stepAt, checkBook}
 
 -- registers not named are zero and untagged; nothing is pending and the cause is 0
@@ -77,11 +76,6 @@ enterBook book s = enterAll (length book) book (length (s .ram)) (stepAt book (l
 -- 20 (all three sizes); then the book's own refusals
 unfoldable pub judged : List ℕ → ℕ → ℕ → ℕ → Verdict
 judged book flash ram tags = cond (sizesFit flash ram tags) (checkBook book ram) (Verdict.Refused Refusal.Sizes)
-
--- the number that is printed for a book: 0 where it is accepted
-abbrev pub verdictNumber : Verdict → ℕ
-verdictNumber Verdict.Accepted = 0
-verdictNumber (Verdict.Refused refusal) = refusalNumber refusal
 
 -- the all-zero machine over these memories
 abbrev pub bare : List ℕ → List ℕ → Start

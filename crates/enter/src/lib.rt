@@ -1,6 +1,5 @@
 // A start book entered into a machine and its memories: judged whole before anything is written (01, "The start book").
 use book::Step;
-use book::Verdict;
 use cap::Cap;
 use core::Machine;
 use core::Pending;
@@ -8,26 +7,17 @@ use mem::RAM_BASE;
 use num::LINE;
 use record::Entry;
 use record::PCC;
-use record::Refusal;
+use told::Refusal;
+use told::Verdict;
 ghost use mathlib.Core.Path.{_≡_};
 ghost use Prim.Native.Nat.{_≤_};
 ghost use lib.ListN.{length, replicate};
-ghost use Rattle.enter.specs.Enter.{zeroMachine, withCapability, withGeneral, machineWith, ramWith, tagsWith, enterBook, judged, verdictNumber, bare, readBook, RegisterIsThere, LineIsThere};
+ghost use Rattle.enter.specs.Enter.{zeroMachine, withCapability, withGeneral, machineWith, ramWith, tagsWith, enterBook, judged, bare, readBook, RegisterIsThere, LineIsThere};
 
 // What a book gives: the verdict on it, and the machine that it names, all zero where it is refused.
 pub struct Started {
     pub verdict: Verdict,
     pub machine: Machine,
-}
-
-// 0, or the number of the refusal.
-pub fn verdict_number(verdict: Verdict) -> u8
-    ensures { λ r. ⌜ r ≡ verdictNumber verdict ⌝ }
-{
-    match verdict {
-        Verdict::Accepted => 0,
-        Verdict::Refused(refusal) => record::refusal_number(refusal),
-    }
 }
 
 // The machine of which no register is named.

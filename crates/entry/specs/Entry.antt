@@ -7,7 +7,7 @@ use lib.Dec.{eqb, leb, ltb}
 use Rattle.mem.specs.Place.{RAM-BASE}
 use Rattle.line.specs.Line.{capIn}
 use Rattle.accept.specs.Accept.{loadedFits}
-use Rattle.record.specs.declared.Refusal.{Refusal}
+use Rattle.told.specs.declared.Refusal.{Refusal}
 use Rattle.record.specs.declared.Entry.{Entry}
 use Rattle.fields.specs.Fields.{capabilityOf}
 use Rattle.record.specs.Record.{byte, number, refused}

@@ -2,7 +2,7 @@
 use mem::RAM_BASE;
 use num::LINE;
 use record::Entry;
-use record::Refusal;
+use told::Refusal;
 ghost use mathlib.Core.Path.{_≡_};
 ghost use mathlib.Core.Bool.{_&&_};
 ghost use lib.Dec.{leb};

@@ -23,18 +23,19 @@ use Rattle.perform.specs.Act.{plannedOf}
 use Rattle.fetch.specs.Fetch.{fetchOf}
 use Rattle.state.specs.State.{commit, operandsOf, stoppedAt}
 use Rattle.state.specs.Steps.{ramAt, runFrom, tagsAt, turnAt}
-use Rattle.record.specs.declared.Refusal.{Refusal}
+use Rattle.told.specs.declared.Refusal.{Refusal}
 use Rattle.record.specs.Record.{bodyAt, headAt}
 use Rattle.entry.specs.Entry.{entryOf, generalOf, isLine, lineOf}
 use Rattle.fields.specs.Fields.{capOf, capabilityOf}
-use Rattle.book.specs.declared.Verdict.{Verdict}
+use Rattle.told.specs.declared.Verdict.{Verdict}
 use Rattle.book.specs.Book.{afterEntry, afterHead, checkBook, inOrder, stepAt, walk}
 use Rattle.enter.specs.Enter.{bare, startAs, enterAll, enterBook, judged, machineWith, ramWith, readBook, tagsWith}
 use Rattle.compose.specs.Compose.{capBody, fields, generalBody, lineBody, recordOf}
 use Rattle.state.specs.Run.{runOf}
-use Rattle.answer.specs.declared.Answer.{Answer}
+use Rattle.told.specs.declared.Answer.{Answer}
+use Rattle.told.specs.Told.{refusing}
 use Rattle.bench.specs.Bench.{BENCH-RAM, BUDGET, FILE-MOST, benchOf}
-use Rattle.answer.specs.Answer.{answerOf, refusing, startedBy, bookRun}
+use Rattle.answer.specs.Answer.{answerOf, startedBy, bookRun}
 use Rattle.examples.specs.Table.{Row, table}
 use Rattle.examples.specs.Claims.{BenchTable}
 use Rattle.granted.proofs.Read.{read-is-accepted}

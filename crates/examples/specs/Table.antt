@@ -10,7 +10,7 @@ use Rattle.cap.specs.Cap.{EXECUTE, LOAD, STORE}
 use Rattle.narrow.specs.Narrow.{setLength, setOffset, withRange}
 use Rattle.checks.specs.Checks.{LENGTH, TAG, NO-REGISTER}
 use Rattle.compose.specs.Compose.{recordOf, capBody, generalBody, lineBody}
-use Rattle.answer.specs.declared.Answer.{Answer}
+use Rattle.told.specs.declared.Answer.{Answer}
 
 pub record Row : Type 0 where
   pub book : List ℕ

@@ -4,7 +4,7 @@ use num::Address;
 use num::Offset;
 use record::Entry;
 use record::PCC;
-use record::Refusal;
+use told::Refusal;
 ghost use mathlib.Core.Path.{_≡_};
 ghost use mathlib.Core.Bool.{_&&_};
 ghost use lib.ListN.{length};

@@ -10,8 +10,8 @@ use lib.ListN.{length, getD}
 use Rattle.store.specs.Store.{tagOf}
 use Rattle.cap.specs.declared.Cap.{Cap}
 use Rattle.narrow.specs.Narrow.{null}
-use Rattle.accept.specs.declared.Refusal.{Refusal}
-use Rattle.accept.specs.declared.Verdict.{Verdict}
+use Rattle.told.specs.declared.Refusal.{Refusal}
+use Rattle.told.specs.declared.Verdict.{Verdict}
 use Rattle.accept.specs.Accept.{every, sizesFit, tagBytesFit, topFits, capsFit, jumpFits, lineFits, linesFit, widthFits, widthsFit, jumpWidth, verdictOf}
 use Rattle.enter.specs.Enter.{Start}
 use Rattle.accept.proofs.Accepted.{load-line}

@@ -11,8 +11,8 @@ use Rattle.mem.specs.Place.{memoryFits, tagsFit}
 use Rattle.store.specs.Store.{tagOf}
 use Rattle.narrow.specs.Narrow.{null}
 use Rattle.accept.specs.Accept.{sizesFit}
-use Rattle.record.specs.declared.Refusal.{Refusal}
-use Rattle.book.specs.declared.Verdict.{Verdict}
+use Rattle.told.specs.declared.Refusal.{Refusal}
+use Rattle.told.specs.declared.Verdict.{Verdict}
 use Rattle.book.specs.Book.{checkBook, stepAt}
 use Rattle.enter.specs.Enter.{bare, judged}
 use Rattle.checks.proofs.Tests.{both-true}

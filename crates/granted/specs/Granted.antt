@@ -5,12 +5,11 @@ use mathlib.Core.Bool.{true, false}
 use mathlib.Core.List.{List, [], _∷_}
 use lib.ListN.{length, getD, replicate}
 use Rattle.cap.specs.declared.Cap.{Cap}
-use Rattle.accept.specs.declared.Verdict as start
+use Rattle.told.specs.declared.Verdict.{Verdict}
 use Rattle.accept.specs.Accept.{sizesFit, verdictOf}
 use Rattle.core.specs.declared.Machine.{Machine}
 use Rattle.state.specs.State.{capability}
 use Rattle.state.specs.Run.{runOf}
-use Rattle.book.specs.declared.Verdict.{Verdict}
 use Rattle.enter.specs.Enter.{Start, zeroMachine, judged, readBook}
 use Rattle.isolation.specs.Reach.{Memories, Reach, CanRead, CanLoad}
 
@@ -24,7 +23,7 @@ read book flash ram tags = readBook book (length flash) ram tags
 -- run accepts this start: not 20, 21, 22 or 24
 abbrev pub StartAccepted : List ℕ → Start → Type 0
 StartAccepted flash s =
-    verdictOf (s .machine .caps) (s .machine .pcc) (s .machine .pending) (getD (s .machine .general) 0 0) (length flash) (s .ram) (s .tags) ≡ start.Verdict.Accepted
+    verdictOf (s .machine .caps) (s .machine .pcc) (s .machine .pending) (getD (s .machine .general) 0 0) (length flash) (s .ram) (s .tags) ≡ Verdict.Accepted
 
 -- Whatever the book, the flash and what the RAM and the tags held: a start that read_book accepts is a start that run accepts.
 abbrev pub ReadIsAccepted : Type 0

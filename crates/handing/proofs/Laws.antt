@@ -6,11 +6,12 @@ use borrow.Author.Tests.{le-leb}
 use lib.ListN.{length}
 use Rattle.store.specs.Store.{put}
 use Rattle.core.specs.declared.Machine.{Machine}
-use Rattle.book.specs.declared.Verdict.{Verdict}
-use Rattle.enter.specs.Enter.{judged, readBook, verdictNumber}
+use Rattle.told.specs.declared.Verdict.{Verdict}
+use Rattle.told.specs.Told.{verdictNumber, over}
+use Rattle.enter.specs.Enter.{judged, readBook}
 use Rattle.giving.specs.Registers.{REGISTERS, registersOf}
 use Rattle.giving.proofs.Registers.{registers-front}
-use Rattle.handing.specs.Handing.{over, readInto}
+use Rattle.handing.specs.Handing.{readInto}
 
 -- a book that was read, and its registers put
 module _ (book : List ℕ) (flash : ℕ) (ram tags registers : List ℕ) (room : REGISTERS ≤ length registers) (v : Verdict) (m : Machine) (ram′ tags′ registers′ : List ℕ) (code : ℕ)

@@ -1,21 +1,17 @@
 -- A book read for a reader outside: what is returned, and what is left in the buffers that are lent.
 use Prim.Native.Nat.{ℕ}
 use mathlib.Core.Bool.{cond}
-use mathlib.Core.List.{List, _++_}
-use lib.ListN.{length, drop}
+use mathlib.Core.List.{List}
+use lib.ListN.{length}
 use lib.Dec.{leb}
-use Rattle.record.specs.declared.Refusal.{Refusal}
-use Rattle.record.specs.Record.{refusalNumber}
-use Rattle.enter.specs.Enter.{judged, readBook, verdictNumber}
+use Rattle.told.specs.declared.Refusal.{Refusal}
+use Rattle.told.specs.Told.{refusalNumber, verdictNumber, over}
+use Rattle.enter.specs.Enter.{judged, readBook}
 use Rattle.giving.specs.Registers.{REGISTERS, registersOf}
 
 -- 36: what is to be written is longer than the buffer
 abbrev pub NO-ROOM : ℕ
 NO-ROOM = refusalNumber Refusal.Room
-
--- at the front of a buffer; what is past it stays
-abbrev pub over : List ℕ → List ℕ → List ℕ
-over front buffer = front ++ drop (length front) buffer
 
 -- pommerzil_read: what is returned, and the buffers then
 pub record Read : Type 0 where

@@ -1,6 +1,6 @@
 // A book read for a reader outside: its registers handed out as bytes, its RAM and its tags.
 use giving::REGISTERS;
-use record::Refusal;
+use told::Refusal;
 ghost use mathlib.Core.Path.{_≡_};
 ghost use Rattle.handing.specs.Handing.{readInto};
 
@@ -18,11 +18,11 @@ pub fn read_into(
     ensures registers { λ _. ⌜ now (registers .exit) ≡ readInto (now (book .entry)) flash (now (ram .entry)) (now (tags .entry)) (now (registers .entry)) .registers ⌝ }
 {
     if registers.len() < REGISTERS {
-        return record::refusal_number(Refusal::Room);
+        return told::refusal_number(Refusal::Room);
     }
     let started = enter::read_book(book, flash, ram, tags);
     let verdict = started.verdict;
     let m = started.machine;
     giving::put_registers(m, registers);
-    enter::verdict_number(verdict)
+    told::verdict_number(verdict)
 }

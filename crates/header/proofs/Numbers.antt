@@ -12,8 +12,9 @@ use Rattle.narrow.specs.Narrow.{null}
 use Rattle.checks.specs.declared.Fault.{Fault}
 use Rattle.checks.specs.Checks.{stopNumber}
 use Rattle.mem.specs.Place.{memoryFits, tagsFit}
-use Rattle.accept.specs.declared.Refusal as why
-use Rattle.accept.specs.declared.Verdict as start
+use Rattle.told.specs.declared.Refusal.{Refusal}
+use Rattle.told.specs.declared.Verdict.{Verdict}
+use Rattle.told.specs.Told.{refusalNumber, verdictNumber, codeOf, ANSWER-NUMBERS}
 use Rattle.accept.specs.Accept.{sizesFit, tagBytesFit, topFits, capsFit, jumpFits, linesFit, widthFits, widthsFit, jumpWidth, verdictOf}
 use Rattle.core.specs.declared.Machine.{Machine}
 use Rattle.perform.specs.declared.Change.{Change}
@@ -22,20 +23,17 @@ use Rattle.state.specs.State.{commit, stoppedAt}
 use Rattle.state.specs.Steps.{turnAt, ramAt, tagsAt, runFrom}
 use Rattle.state.specs.Run.{runOf}
 use Rattle.state.proofs.Runs.{goes}
-use Rattle.record.specs.declared.Refusal.{Refusal}
-use Rattle.record.specs.Record.{refusalNumber}
-use Rattle.book.specs.declared.Verdict.{Verdict}
-use Rattle.enter.specs.Enter.{verdictNumber, judged, readBook}
+use Rattle.enter.specs.Enter.{judged, readBook}
 use Rattle.write.specs.Write.{Result, rests, capPiece, generalPiece, linePiece, capPieces, generalPieces, linePieces, bookOf, afterStart, afterVerdict, writeBook}
 use Rattle.write.proofs.Pieces.{pieces-most, cap-most, general-most, line-most}
 use Rattle.granted.proofs.Accepted.{widths}
 use Rattle.granted.proofs.Read.{read-sound, read-is-accepted}
 use Rattle.giving.specs.Registers.{REGISTERS}
 use Rattle.handing.specs.Handing.{Read, NO-ROOM, readInto}
-use Rattle.taking.specs.Taking.{writtenBy, writeFrom, codeOf}
+use Rattle.taking.specs.Taking.{writtenBy, writeFrom}
 use Rattle.taking.proofs.Taken.{given}
 use Rattle.answer.specs.Answer.{startedBy, bookRun}
-use Rattle.pommerzil.specs.Exported.{Ran, ANSWER-NUMBERS, runInto}
+use Rattle.pommerzil.specs.Exported.{Ran, runInto}
 use Rattle.header.specs.Header.{listed, RUN-NUMBERS, READ-NUMBERS, WRITE-NUMBERS, BOOK-BYTES, RunNumbers, ReadNumbers, WriteNumbers, RoomForEvery}
 use Rattle.header.proofs.Refusals.{VerdictFair, when, judged-fair, each}
 
@@ -89,9 +87,9 @@ run-numbers budget book flash ram tags answer =
     (started-number budget book flash ram tags (judged book (length flash) (length ram) (length tags)) refl (judged-fair book (length flash) (length ram) (length tags))) refl
 
 -- a start's verdict, by what is known of its first test and of its last
-by-tests : (P : start.Verdict → Type 0) (a b d e : Bool) → (a ≡ true → P start.Verdict.Accepted) → (e ≡ false → P (start.Verdict.Refused why.Refusal.Width))
-    → P (start.Verdict.Refused why.Refusal.Top) → P (start.Verdict.Refused why.Refusal.TagByte) → P (start.Verdict.Refused why.Refusal.Sizes)
-    → P (cond a (cond b (cond d (cond e start.Verdict.Accepted (start.Verdict.Refused why.Refusal.Width)) (start.Verdict.Refused why.Refusal.Top)) (start.Verdict.Refused why.Refusal.TagByte)) (start.Verdict.Refused why.Refusal.Sizes))
+by-tests : (P : Verdict → Type 0) (a b d e : Bool) → (a ≡ true → P Verdict.Accepted) → (e ≡ false → P (Verdict.Refused Refusal.Width))
+    → P (Verdict.Refused Refusal.Top) → P (Verdict.Refused Refusal.TagByte) → P (Verdict.Refused Refusal.Sizes)
+    → P (cond a (cond b (cond d (cond e Verdict.Accepted (Verdict.Refused Refusal.Width)) (Verdict.Refused Refusal.Top)) (Verdict.Refused Refusal.TagByte)) (Verdict.Refused Refusal.Sizes))
 by-tests P true b d true p w top tag sizes = when P b _ _ (when P d _ _ (p refl) top) tag
 by-tests P true b d false p w top tag sizes = when P b _ _ (when P d _ _ (w refl) top) tag
 by-tests P false b d e p w top tag sizes = sizes
@@ -99,8 +97,8 @@ by-tests P false b d e p w top tag sizes = sizes
 abbrev widthsOf : Machine → Bool
 widthsOf m = (widthsFit (m .caps) && (widthFits (m .pcc) && jumpWidth (m .pending))) && eqb (getD (m .general) 0 0) 0
 
-judge : (P : start.Verdict → Type 0) (m : Machine) (ram tags : List ℕ) → (sizesFit 0 (length ram) (length tags) ≡ true → P start.Verdict.Accepted) → (widthsOf m ≡ false → P (start.Verdict.Refused why.Refusal.Width))
-    → P (start.Verdict.Refused why.Refusal.Top) → P (start.Verdict.Refused why.Refusal.TagByte) → P (start.Verdict.Refused why.Refusal.Sizes)
+judge : (P : Verdict → Type 0) (m : Machine) (ram tags : List ℕ) → (sizesFit 0 (length ram) (length tags) ≡ true → P Verdict.Accepted) → (widthsOf m ≡ false → P (Verdict.Refused Refusal.Width))
+    → P (Verdict.Refused Refusal.Top) → P (Verdict.Refused Refusal.TagByte) → P (Verdict.Refused Refusal.Sizes)
     → P (verdictOf (m .caps) (m .pcc) (m .pending) (getD (m .general) 0 0) 0 ram tags)
 unfolding verdictOf
 judge P m ram tags p w top tag sizes =
@@ -113,10 +111,10 @@ module _ (registers ram tags book : List ℕ) where
   abbrev machine : Machine
   machine = readBook registers 0 [] [] .machine
 
-  abbrev Told : start.Verdict → Type 0
+  abbrev Told : Verdict → Type 0
   Told v = listed (codeOf (afterVerdict machine ram tags book v .written)) WRITE-NUMBERS ≡ true
 
-  rest-number : rests machine ≡ true → Told start.Verdict.Accepted
+  rest-number : rests machine ≡ true → Told Verdict.Accepted
   unfolding afterStart listed
   rest-number e = rw e (when (λ (r : Result). listed (codeOf (r .written)) WRITE-NUMBERS ≡ true) (ltb (length book) (length (bookOf machine ram tags))) _ _ refl refl)
 
@@ -148,7 +146,7 @@ book-most m ram tags =
     ))
 
 module _ (m : Machine) (ram tags book : List ℕ) (room : BOOK-BYTES (length ram) ≤ length book) where
-  abbrev Roomy : start.Verdict → Type 0
+  abbrev Roomy : Verdict → Type 0
   Roomy v = eqb (codeOf (afterVerdict m ram tags book v .written)) NO-ROOM ≡ false
 
   sized : (a b c : Bool) → ((a && b) && c) ≡ true → c ≡ true
@@ -156,7 +154,7 @@ module _ (m : Machine) (ram tags book : List ℕ) (room : BOOK-BYTES (length ram
   sized true false c e = never _ false e refl
   sized false b c e = never _ false e refl
 
-  start-roomy : sizesFit 0 (length ram) (length tags) ≡ true → Roomy start.Verdict.Accepted
+  start-roomy : sizesFit 0 (length ram) (length tags) ≡ true → Roomy Verdict.Accepted
   unfolding afterStart
   start-roomy e =
       let t : length tags ≡ length ram / LINE = eqb-true (length tags) (length ram / LINE) (sized (memoryFits 0) (memoryFits (length ram)) (tagsFit (length ram) (length tags)) e) in

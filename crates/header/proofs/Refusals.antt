@@ -6,14 +6,14 @@ use lib.Dec.{eqb, leb, ltb}
 use lib.ListN.{length, take, drop}
 use Rattle.accept.specs.Accept.{sizesFit, topFits, loadedFits}
 use Rattle.line.specs.Line.{capIn}
-use Rattle.record.specs.declared.Refusal.{Refusal}
+use Rattle.told.specs.declared.Refusal.{Refusal}
 use Rattle.record.specs.declared.Entry.{Entry}
 use Rattle.record.specs.declared.Head.{Head}
 use Rattle.record.specs.Record.{byte, number, headAt}
 use Rattle.entry.specs.Entry.{generalOf, isLine, lineOf, entryOf}
 use Rattle.fields.specs.Fields.{capOf, capabilityOf}
 use Rattle.book.specs.declared.Step.{Step}
-use Rattle.book.specs.declared.Verdict.{Verdict}
+use Rattle.told.specs.declared.Verdict.{Verdict}
 use Rattle.book.specs.Book.{kindOf, keyOf, inOrder, afterEntry, afterHead, stepAt, walk, checkBook}
 use Rattle.enter.specs.Enter.{judged}
 

@@ -7,7 +7,8 @@ use lib.ListN.{length}
 use lib.Dec.{eqb}
 use Rattle.num.specs.Number.{LINE, Bytes}
 use Rattle.handing.specs.Handing.{NO-ROOM, readInto}
-use Rattle.taking.specs.Taking.{writeFrom, codeOf}
+use Rattle.told.specs.Told.{codeOf}
+use Rattle.taking.specs.Taking.{writeFrom}
 use Rattle.pommerzil.specs.Exported.{runInto}
 
 unfoldable pub listed : ℕ → List ℕ → Bool

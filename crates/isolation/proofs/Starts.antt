@@ -1,22 +1,19 @@
 -- An accepted start: each tagged capability that is held or in a line fits. Assumes nothing.
-use Prim.Native.Nat.{ℕ, _+_, _*_, _/_, _%_, _^_, _≤_, _<_}
-use mathlib.Core.Path.{_≡_, refl, sym, ap, subst, _∙_}
-use mathlib.Core.Bool.{Bool, true, false, cond, not, _&&_}
-use mathlib.Core.List.{List, []}
+use Prim.Native.Nat.{ℕ, _+_, _*_, _^_, _≤_, _<_}
+use mathlib.Core.Path.{_≡_, sym, subst}
+use mathlib.Core.Bool.{Bool, true, false, _&&_}
+use mathlib.Core.List.{List}
 use native.Mathlib.Omega.{arith}
 use native.Mathlib.Decide.{decLt}
 use borrow.Author.Tests.{eqb-true, eq-eqb, ltb-true, ltb-false, not-true}
-use lib.Dec.{eqb, ltb}
+use lib.Dec.{ltb}
 use lib.ListN.{length, getD, take, drop, List·getD-eq-default}
 use Rattle.num.specs.Number.{LINE}
 use Rattle.store.specs.Store.{tagOf}
 use Rattle.cap.specs.declared.Cap.{Cap}
-use Rattle.narrow.specs.Narrow.{null}
-use Rattle.line.specs.declared.LoadedCap.{LoadedCap}
-use Rattle.line.specs.Line.{word, decode, fromWords, capIn}
+use Rattle.line.specs.Line.{decode, fromWords, capIn}
 use Rattle.core.specs.declared.Pending.{Pending}
-use Rattle.accept.specs.declared.Verdict.{Verdict}
-use Rattle.accept.specs.Accept.{topFits, jumpFits, loadedFits, widthFits, jumpWidth, verdictOf}
+use Rattle.accept.specs.Accept.{topFits, jumpFits, loadedFits, widthFits, jumpWidth}
 use Rattle.checks.proofs.Tests.{both-true}
 use Rattle.accept.proofs.Accepted.{whole-lines, few-lines, cap-top, pcc-top, jump-top, cap-width, pcc-width, jump-width, line-top, bytes-32, loaded-top}
 use Rattle.core.specs.declared.Machine.{Machine}

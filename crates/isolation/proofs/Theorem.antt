@@ -1,25 +1,17 @@
 -- The theorems: what is out of reach has no influence, reach does not grow, and nothing out of reach is written. Assumes nothing.
-use Prim.Native.Nat.{ℕ, zero, suc, _+_, _<_}
+use Prim.Native.Nat.{ℕ, zero, suc, _+_}
 use mathlib.Core.Path.{_≡_, refl, sym, ap, subst, _∙_}
-use mathlib.Core.Bool.{Bool, true, false}
-use mathlib.Core.List.{List}
+use mathlib.Core.Bool.{true}
 use native.Mathlib.Omega.{arith}
-use lib.ListN.{length, getD}
-use Rattle.num.specs.Number.{LINE}
-use Rattle.store.specs.Store.{tagOf}
 use Rattle.cap.specs.declared.Cap.{Cap}
-use Rattle.cap.specs.Cap.{permits, LOAD-CAPABILITY}
-use Rattle.checks.specs.declared.Fault.{Fault}
-use Rattle.perform.specs.declared.Change.{Change}
+use Rattle.cap.specs.Cap.{LOAD-CAPABILITY}
 use Rattle.perform.specs.declared.Turn.{Turn}
 use Rattle.perform.specs.declared.Turn.the-variants.{Next, Stops}
-use Rattle.accept.specs.declared.Verdict.{Verdict}
-use Rattle.accept.specs.Accept.{verdictOf}
 use Rattle.core.specs.declared.Machine.{Machine}
-use Rattle.state.specs.State.{commit, stoppedAt, endedWith}
-use Rattle.state.specs.Steps.{Result, turnAt, ramAt, tagsAt, runFrom}
+use Rattle.state.specs.State.{commit, stoppedAt}
+use Rattle.state.specs.Steps.{Result, turnAt, runFrom}
 use Rattle.state.specs.Run.{judged, runOf}
-use Rattle.isolation.specs.Reach.{Memories, lineCap, Held, inRegister, inPcc, inPending, Reach, held, line, CanLoad}
+use Rattle.isolation.specs.Reach.{Memories, Held, inRegister, inPcc, inPending, Reach, held, line, CanLoad}
 use Rattle.isolation.specs.Agree.{Agree, Alike, Under, Kept, left}
 use Rattle.isolation.specs.Claims.{ran, Accepted, Confined, SameReach, NoGrowth, NothingOutside}
 use Rattle.isolation.proofs.Ranges.{inside-refl, inside-span}

@@ -1,7 +1,7 @@
 // The machine runs: it judges its start, makes its steps, and is its definition for every input.
-use accept::Verdict;
 use core::Machine;
 use state::Outcome;
+use told::Verdict;
 ghost use mathlib.Core.Path.{_≡_};
 ghost use Rattle.state.specs.Run.{runOf};
 
@@ -14,7 +14,7 @@ pub fn run(m: Machine, flash: &[u8], ram: &mut [u8], tags: &mut [u8], budget: u3
     let first = m.general[0];
     let verdict = accept::accept(m.caps, m.pcc, m.pending, first, flash.len(), ram, tags);
     match verdict {
-        Verdict::Refused(refusal) => ending::placeless(accept::refusal_number(refusal), 0, m),
+        Verdict::Refused(refusal) => ending::placeless(told::refusal_number(refusal), 0, m),
         Verdict::Accepted => steps::go(m, flash, ram, tags, budget),
     }
 }

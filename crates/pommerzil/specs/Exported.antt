@@ -1,11 +1,11 @@
 -- What pommerzil_run returns, and what it leaves in the buffers that it is lent.
 use Prim.Native.Nat.{ℕ}
 use mathlib.Core.Bool.{cond}
-use mathlib.Core.List.{List, [], _∷_}
+use mathlib.Core.List.{List}
 use lib.ListN.{length}
 use lib.Dec.{leb}
-use Rattle.handing.specs.Handing.{NO-ROOM, over}
-use Rattle.answer.specs.declared.Answer.{Answer}
+use Rattle.told.specs.Told.{ANSWER-NUMBERS, numbersOf, over}
+use Rattle.handing.specs.Handing.{NO-ROOM}
 use Rattle.answer.specs.Answer.{Benched, bookRun}
 
 -- pommerzil_run: what is returned, and the buffers then
@@ -14,13 +14,6 @@ pub record Ran : Type 0 where
   pub ram : List ℕ
   pub tags : List ℕ
   pub answer : List ℕ
-
--- stop or refusal, cause code, register, place, steps: the bench's line
-abbrev pub numbersOf : Answer → List ℕ
-numbersOf a = a .stop ∷ a .cause ∷ a .register ∷ a .place ∷ a .steps ∷ []
-
-abbrev pub ANSWER-NUMBERS : ℕ
-ANSWER-NUMBERS = 5
 
 abbrev pub answered : Benched → List ℕ → Ran
 answered b answer = record { code = b .answer .stop; ram = b .ram; tags = b .tags; answer = over (numbersOf (b .answer)) answer }

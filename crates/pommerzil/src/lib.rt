@@ -1,26 +1,11 @@
 // The model as a static library for C: numbers and lent buffers in, 01's number out. include/pommerzil.h is its header.
-use answer::Answer;
-use record::Refusal;
+use told::ANSWER_NUMBERS;
+use told::Refusal;
 ghost use mathlib.Core.Path.{_≡_};
-ghost use Prim.Native.Nat.{_≤_};
-ghost use lib.ListN.{length};
-ghost use Rattle.handing.specs.Handing.{over, readInto};
-ghost use Rattle.pommerzil.specs.Exported.{numbersOf, runInto};
-ghost use Rattle.taking.specs.Taking.{writeFrom, codeOf, bytesOf};
-
-// The numbers of an answer: stop or refusal, cause code, register, place, steps.
-const ANSWER_NUMBERS: usize = 5;
-
-fn put_answer(a: Answer, answer: &mut [u64])
-    requires { ⌜ 5 ≤ length (now answer) ⌝ }
-    ensures { λ _. ⌜ now (answer .exit) ≡ over (numbersOf a) (now (answer .entry)) ⌝ }
-{
-    answer[0] = a.stop as u64;
-    answer[1] = a.cause as u64;
-    answer[2] = a.register as u64;
-    answer[3] = a.place;
-    answer[4] = a.steps as u64;
-}
+ghost use Rattle.handing.specs.Handing.{readInto};
+ghost use Rattle.pommerzil.specs.Exported.{runInto};
+ghost use Rattle.taking.specs.Taking.{writeFrom};
+ghost use Rattle.told.specs.Told.{codeOf, bytesOf};
 
 // Reads a book and runs it: the stop or the refusal, and the whole answer in `answer`.
 #[no_mangle]
@@ -38,10 +23,10 @@ pub extern "C" fn pommerzil_run(
     ensures answer { λ _. ⌜ now (answer .exit) ≡ runInto budget (now (book .entry)) (now (flash .entry)) (now (ram .entry)) (now (tags .entry)) (now (answer .entry)) .answer ⌝ }
 {
     if answer.len() < ANSWER_NUMBERS {
-        return record::refusal_number(Refusal::Room);
+        return told::refusal_number(Refusal::Room);
     }
     let a = answer::run_book(book, flash, ram, tags, budget);
-    put_answer(a, answer);
+    told::put_answer(a, answer);
     a.stop
 }
 
@@ -76,6 +61,6 @@ pub extern "C" fn pommerzil_write(
     ensures written { λ _. ⌜ now (written .exit) ≡ bytesOf (writeFrom (now (registers .entry)) (now (ram .entry)) (now (tags .entry)) (now (book .entry)) .written) ⌝ }
 {
     let answer = taking::write_from(registers, ram, tags, book);
-    *written = taking::bytes_of(answer);
-    taking::code_of(answer)
+    *written = told::bytes_of(answer);
+    told::code_of(answer)
 }

@@ -1,10 +1,10 @@
 // Prints the bench's line for `start.book` and `flash.bin` of the folder that it runs in: stop or refusal, cause code, register,
 // place, steps (01, "Bench examples").
-use answer::Answer;
 use bench::BENCH_RAM;
 use bench::BENCH_TAGS;
 use bench::FILE_MOST;
 use libc::STDOUT_FILENO;
+use told::Answer;
 ghost use mathlib.Core.Path.{_≡_};
 ghost use lib.ListN.{length};
 ghost use Rattle.io.specs.Counts.{Counts};

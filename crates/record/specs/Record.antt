@@ -5,22 +5,9 @@ use mathlib.Core.List.{List}
 use lib.ListN.{length, getD, take, drop}
 use lib.Dec.{eqb, leb, ltb}
 use Rattle.num.specs.Number.{be}
-use Rattle.record.specs.declared.Refusal.{Refusal}
+use Rattle.told.specs.declared.Refusal.{Refusal}
 use Rattle.record.specs.declared.Head.{Head}
 use Rattle.record.specs.declared.Entry.{Entry}
-
-abbrev pub refusalNumber : Refusal → ℕ
-refusalNumber Refusal.Sizes = 20
-refusalNumber Refusal.TagByte = 21
-refusalNumber Refusal.Top = 22
-refusalNumber Refusal.Width = 24
-refusalNumber Refusal.Version = 30
-refusalNumber Refusal.Cut = 31
-refusalNumber Refusal.Kind = 32
-refusalNumber Refusal.Order = 33
-refusalNumber Refusal.Field = 34
-refusalNumber Refusal.Waiting = 35
-refusalNumber Refusal.Room = 36
 
 -- byte i, and the number in the n bytes from i on
 abbrev pub byte : List ℕ → ℕ → ℕ

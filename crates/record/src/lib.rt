@@ -1,22 +1,8 @@
 // One record of a start book: where its body lies, and what the body says or why it is refused (01, "The start book").
 use cap::Cap;
+use told::Refusal;
 ghost use mathlib.Core.Path.{_≡_};
-ghost use Rattle.record.specs.Record.{refusalNumber, headAt};
-
-// Why a book is refused, by its reader or its writer.
-pub enum Refusal {
-    Sizes,
-    TagByte,
-    Top,
-    Width,
-    Version,
-    Cut,
-    Kind,
-    Order,
-    Field,
-    Waiting,
-    Room,
-}
+ghost use Rattle.record.specs.Record.{headAt};
 
 // What stands at a place of a book: nothing more, a record that is cut or empty, or a body.
 pub enum Head {
@@ -35,24 +21,6 @@ pub enum Entry {
 
 // The number of PCC in a record.
 pub const PCC: u8 = 32;
-
-pub fn refusal_number(refusal: Refusal) -> u8
-    ensures { λ r. ⌜ r ≡ refusalNumber refusal ⌝ }
-{
-    match refusal {
-        Refusal::Sizes => 20,
-        Refusal::TagByte => 21,
-        Refusal::Top => 22,
-        Refusal::Width => 24,
-        Refusal::Version => 30,
-        Refusal::Cut => 31,
-        Refusal::Kind => 32,
-        Refusal::Order => 33,
-        Refusal::Field => 34,
-        Refusal::Waiting => 35,
-        Refusal::Room => 36,
-    }
-}
 
 // The record that begins at a place: a length of two bytes and a body.
 pub fn head_at(book: &[u8], at: usize) -> Head

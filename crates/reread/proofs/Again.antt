@@ -1,33 +1,32 @@
 -- The records of a written book give back the machine, the RAM and the tags that were written. Assumes nothing.
 use Prim.Native.Nat.{ℕ, zero, suc, _+_, _-_, _*_, _/_, _≤_, _<_}
 use mathlib.Core.Path.{_≡_, refl, sym, _∙_, ap, subst}
-use mathlib.Core.Bool.{Bool, true, false, cond, not, _&&_}
-use mathlib.Core.List.{List, [], _∷_, _++_}
+use mathlib.Core.Bool.{Bool, true, false, not, _&&_}
+use mathlib.Core.List.{List}
 use native.Mathlib.Omega.{arith}
 use lib.Dec.{eqb}
 use lib.ListN.{length, getD, set, take, drop, replicate, length-replicate, getD-replicate}
-use borrow.Author.Tests.{le-leb, eqb-true, eqb-false, ne-eqb, not-true}
+use borrow.Author.Tests.{le-leb, eqb-true, ne-eqb, not-true}
 use Rattle.mem.specs.Place.{RAM-BASE, memoryFits, tagsFit}
 use Rattle.store.specs.Store.{bit, put, tagOf, withTag}
 use Rattle.cap.specs.declared.Cap.{Cap}
 use Rattle.narrow.specs.Narrow.{null}
 use Rattle.core.specs.declared.Pending.{Pending}
 use Rattle.core.specs.Registers.{isPending}
-use Rattle.accept.specs.declared.Verdict as start
+use Rattle.told.specs.declared.Verdict.{Verdict}
 use Rattle.accept.specs.Accept.{verdictOf}
 use Rattle.core.specs.declared.Machine.{Machine}
 use Rattle.record.specs.declared.Entry.{Entry}
 use Rattle.record.specs.Record.{headAt}
 use Rattle.book.specs.declared.Step.{Step}
-use Rattle.book.specs.declared.Verdict.{Verdict}
 use Rattle.book.specs.Book.{kindOf, keyOf, afterHead, stepAt}
 use Rattle.book.proofs.Walks.{more-fits}
-use Rattle.compose.specs.Compose.{recordOf, capBody, generalBody, lineBody, zeroBytes}
+use Rattle.compose.specs.Compose.{capBody, generalBody, lineBody, zeroBytes}
 use Rattle.compose.proofs.Fields.{line-bytes}
 use Rattle.write.specs.Write.{lineBytes, rests}
 use Rattle.enter.specs.Enter.{Start, entered, machineWith, ramWith, tagsWith, enterAll, enterBook, bare, judged, readBook}
 use Rattle.reread.specs.Claims.{Typed, WrittenAndRead}
-use Rattle.reread.proofs.Walked.{Suffix, Passes}
+use Rattle.reread.proofs.Walked.{Passes}
 use Rattle.checks.proofs.Tests.{both-true}
 use Rattle.accept.proofs.Accepted.{sizes-fit, tag-low, whole-lines, first-zero, bytes-32}
 use Rattle.reread.proofs.Filled.{filled, filled-set, filled-same, filled-all, filled-put, filled-part, zero-part, line-bytes-at}
@@ -60,7 +59,7 @@ no-tag : (tags : List ℕ) (i : ℕ) → getD tags i 0 ≤ 1 → tagOf tags i �
 no-tag tags i h e = sym (ap bit e) ∙ tag-byte tags i h
 
 module _ (m : Machine) (o : Omits m) (ram tags : List ℕ) (ty : Typed m) (lc : length (m .caps) ≡ 32) (lg : length (m .general) ≡ 32)
-    (v : start.Verdict.Accepted ≡ verdictOf (m .caps) (m .pcc) (m .pending) (getD (m .general) 0 0) 0 ram tags) where
+    (v : Verdict.Accepted ≡ verdictOf (m .caps) (m .pcc) (m .pending) (getD (m .general) 0 0) 0 ram tags) where
   abbrev book : List ℕ
   book = bookOmitting m o ram tags
 
@@ -221,7 +220,7 @@ read-accepted book flash ram tags e =
 
 -- a book that names all registers but some that are zero gives back the machine, the RAM and the tags that it is of
 pub omitting-read : (m : Machine) (o : Omits m) (ram tags : List ℕ) (flash : ℕ) (ram′ tags′ : List ℕ) → Typed m → length (m .caps) ≡ 32 → length (m .general) ≡ 32
-    → start.Verdict.Accepted ≡ verdictOf (m .caps) (m .pcc) (m .pending) (getD (m .general) 0 0) 0 ram tags
+    → Verdict.Accepted ≡ verdictOf (m .caps) (m .pcc) (m .pending) (getD (m .general) 0 0) 0 ram tags
     → rests m ≡ true
     → memoryFits flash ≡ true
     → length ram′ ≡ length ram

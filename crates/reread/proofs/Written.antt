@@ -1,5 +1,5 @@
 -- A book that the writer wrote is one that the reader accepts. Assumes nothing.
-use Prim.Native.Nat.{ℕ, zero, suc, _+_, _-_, _*_, _%_, _^_, _≤_, _<_}
+use Prim.Native.Nat.{ℕ, zero, suc, _+_, _-_, _*_, _≤_, _<_}
 use mathlib.Core.Path.{_≡_, refl, sym, _∙_, ap, subst}
 use mathlib.Core.Bool.{Bool, true, false, cond, not, _&&_}
 use mathlib.Core.List.{List, [], _∷_, _++_, append-nil}
@@ -11,19 +11,17 @@ use lib.Seq.{take-at}
 use Rattle.mem.specs.Place.{RAM-BASE}
 use Rattle.store.specs.Store.{tagOf}
 use Rattle.cap.specs.declared.Cap.{Cap}
-use Rattle.cap.specs.Cap.{Within}
 use Rattle.narrow.specs.Narrow.{null}
-use Rattle.accept.specs.declared.Verdict as start
-use Rattle.accept.specs.Accept.{topFits, verdictOf}
+use Rattle.told.specs.declared.Verdict.{Verdict}
+use Rattle.accept.specs.Accept.{verdictOf}
 use Rattle.core.specs.declared.Machine.{Machine}
-use Rattle.record.specs.declared.Refusal.{Refusal}
+use Rattle.told.specs.declared.Refusal.{Refusal}
 use Rattle.record.specs.declared.Entry.{Entry}
 use Rattle.entry.proofs.Laws.{within as line-within}
-use Rattle.book.specs.declared.Verdict.{Verdict}
 use Rattle.book.specs.Book.{checkBook}
 use Rattle.book.proofs.Walks.{rises, check-start}
 use Rattle.compose.specs.Compose.{recordOf, capBody, generalBody, lineBody, zeroCap, zeroBytes}
-use Rattle.write.specs.declared.Written.{Written}
+use Rattle.told.specs.declared.Written.{Written}
 use Rattle.write.specs.Write.{pieces, capPiece, generalPiece, lineBytes, linePiece, capPieces, generalPieces, linePieces, bookOf, refused, wholly, rests, afterStart, afterVerdict, writeBook}
 use Rattle.write.proofs.Books.{lines-there}
 use Rattle.reread.specs.Claims.{Typed, WrittenIsAccepted}
@@ -74,7 +72,7 @@ pub written-omits : (m : Machine) (ram tags : List ℕ) → bookOf m ram tags �
 unfolding bookOf bookOmitting capPieces capPiece generalPieces generalPiece zeros
 written-omits m ram tags = refl
 
-module _ (m : Machine) (o : Omits m) (ram tags : List ℕ) (ty : Typed m) (v : start.Verdict.Accepted ≡ verdictOf (m .caps) (m .pcc) (m .pending) (getD (m .general) 0 0) 0 ram tags) where
+module _ (m : Machine) (o : Omits m) (ram tags : List ℕ) (ty : Typed m) (v : Verdict.Accepted ≡ verdictOf (m .caps) (m .pcc) (m .pending) (getD (m .general) 0 0) 0 ram tags) where
   pub there : (length tags * 32 ≤ length ram) × (length tags ≤ 2048)
   there = lines-there (m .caps) (m .pcc) (m .pending) (getD (m .general) 0 0) ram tags v
 
@@ -191,14 +189,14 @@ module _ (m : Machine) (ram tags out : List ℕ) (n : ℕ) where
   unfolding afterStart
   rested = answered (rests m) (ltb (length out) (length (bookOf m ram tags))) (bookOf m ram tags) out n
 
-  judged : (v : start.Verdict) → afterVerdict m ram tags out v .written ≡ Written.Book n
-      → (start.Verdict.Accepted ≡ v) × (rests m ≡ true) × (length (bookOf m ram tags) ≡ n) × (afterVerdict m ram tags out v .out ≡ bookOf m ram tags ++ drop (length (bookOf m ram tags)) out)
-  judged start.Verdict.Accepted e = let f = rested e in (refl, f .0, f .1, f .2)
-  judged (start.Verdict.Refused r) e = let z : _≡_ {A = ℕ} 0 1 = cc in absurd (omega arith)
+  judged : (v : Verdict) → afterVerdict m ram tags out v .written ≡ Written.Book n
+      → (Verdict.Accepted ≡ v) × (rests m ≡ true) × (length (bookOf m ram tags) ≡ n) × (afterVerdict m ram tags out v .out ≡ bookOf m ram tags ++ drop (length (bookOf m ram tags)) out)
+  judged Verdict.Accepted e = let f = rested e in (refl, f .0, f .1, f .2)
+  judged (Verdict.Refused r) e = let z : _≡_ {A = ℕ} 0 1 = cc in absurd (omega arith)
 
 -- exactly the book is taken
 pub taken : (m : Machine) (ram tags out : List ℕ) (n : ℕ) → writeBook m ram tags out .written ≡ Written.Book n
-    → (start.Verdict.Accepted ≡ verdictOf (m .caps) (m .pcc) (m .pending) (getD (m .general) 0 0) 0 ram tags) × (rests m ≡ true) × (take n (writeBook m ram tags out .out) ≡ bookOf m ram tags)
+    → (Verdict.Accepted ≡ verdictOf (m .caps) (m .pcc) (m .pending) (getD (m .general) 0 0) 0 ram tags) × (rests m ≡ true) × (take n (writeBook m ram tags out .out) ≡ bookOf m ram tags)
 unfolding writeBook
 taken m ram tags out n e =
     let f = judged m ram tags out n (verdictOf (m .caps) (m .pcc) (m .pending) (getD (m .general) 0 0) 0 ram tags) e in

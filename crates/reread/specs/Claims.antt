@@ -8,10 +8,10 @@ use Rattle.mem.specs.Place.{memoryFits}
 use Rattle.cap.specs.declared.Cap.{Cap}
 use Rattle.narrow.specs.Narrow.{null}
 use Rattle.core.specs.declared.Machine.{Machine}
-use Rattle.book.specs.declared.Verdict.{Verdict}
+use Rattle.told.specs.declared.Verdict.{Verdict}
 use Rattle.book.specs.Book.{checkBook}
 use Rattle.enter.specs.Enter.{judged, readBook}
-use Rattle.write.specs.declared.Written.{Written}
+use Rattle.told.specs.declared.Written.{Written}
 use Rattle.write.specs.Write.{writeBook}
 
 -- every field is of its integer type, as in any machine of the code

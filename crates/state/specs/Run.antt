@@ -2,8 +2,9 @@
 use Prim.Native.Nat.{ℕ}
 use mathlib.Core.List.{List}
 use lib.ListN.{length, getD}
-use Rattle.accept.specs.declared.Verdict.{Verdict}
-use Rattle.accept.specs.Accept.{verdictOf, refusalNumber}
+use Rattle.told.specs.declared.Verdict.{Verdict}
+use Rattle.told.specs.Told.{refusalNumber}
+use Rattle.accept.specs.Accept.{verdictOf}
 use Rattle.core.specs.declared.Machine.{Machine}
 use Rattle.state.specs.State.{endedWith}
 use Rattle.state.specs.Steps.{Result, runFrom}

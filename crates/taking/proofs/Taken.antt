@@ -6,10 +6,9 @@ use mathlib.Core.List.{List, [], _∷_, _++_, append-nil}
 use native.Mathlib.Omega.{arith}
 use lib.ListN.{length, getD, replicate, length-replicate}
 use Rattle.num.specs.Number.{Bytes}
-use Rattle.accept.specs.declared.Verdict as start
+use Rattle.told.specs.declared.Verdict.{Verdict}
 use Rattle.accept.specs.Accept.{verdictOf}
 use Rattle.core.specs.declared.Machine.{Machine}
-use Rattle.book.specs.declared.Verdict.{Verdict}
 use Rattle.book.specs.Book.{stepAt}
 use Rattle.enter.specs.Enter.{Start, bare, judged, readBook}
 use Rattle.write.specs.Write.{pieces, linePieces, rests, writeBook}
@@ -48,7 +47,7 @@ all-named m =
 
 -- registers that a book gave are accepted beside no memory
 module _ (m : Machine) (g : Given m) (r : Registers m) where
-  fits : start.Verdict.Accepted ≡ verdictOf (m .caps) (m .pcc) (m .pending) (getD (m .general) 0 0) 0 [] []
+  fits : Verdict.Accepted ≡ verdictOf (m .caps) (m .pcc) (m .pending) (getD (m .general) 0 0) 0 [] []
   fits =
       sym (accepted 0 0 (omega arith) refl (record { machine = m; ram = []; tags = [] })
       (record { registers = r; memories = record { ram-size = refl; tags-size = refl; tag-low = λ i. omega arith; fits = λ i h. absurd (omega arith) } }))

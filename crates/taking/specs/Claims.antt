@@ -4,7 +4,7 @@ use mathlib.Core.Path.{_≡_}
 use mathlib.Core.List.{List}
 use lib.ListN.{length}
 use Rattle.num.specs.Number.{Bytes}
-use Rattle.book.specs.declared.Verdict.{Verdict}
+use Rattle.told.specs.declared.Verdict.{Verdict}
 use Rattle.enter.specs.Enter.{judged, readBook}
 use Rattle.write.specs.Write.{writeBook}
 use Rattle.giving.specs.Registers.{registersOf}

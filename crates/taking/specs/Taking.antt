@@ -1,11 +1,9 @@
--- Registers as bytes taken as a machine again, its book written, and what is told of it.
+-- Registers as bytes taken as a machine again, and its book written.
 use Prim.Native.Nat.{ℕ}
 use mathlib.Core.List.{List, []}
 use Rattle.core.specs.declared.Machine.{Machine}
-use Rattle.record.specs.Record.{refusalNumber}
-use Rattle.book.specs.declared.Verdict.{Verdict}
+use Rattle.told.specs.declared.Verdict.{Verdict}
 use Rattle.enter.specs.Enter.{judged, readBook}
-use Rattle.write.specs.declared.Written.{Written}
 use Rattle.write.specs.Write.{Result, refused, writeBook}
 
 -- the registers are read as a book for no flash and no RAM, which has no line; only where they are accepted is there a machine to write
@@ -15,12 +13,3 @@ writtenBy (Verdict.Refused refusal) m ram tags book = refused refusal book
 
 unfoldable pub writeFrom : List ℕ → List ℕ → List ℕ → List ℕ → Result
 writeFrom registers ram tags book = writtenBy (judged registers 0 0 0) (readBook registers 0 [] [] .machine) ram tags book
-
--- pommerzil_write returns 0 or the refusal, and says how many bytes it wrote
-abbrev pub codeOf : Written → ℕ
-codeOf (Written.Book bytes) = 0
-codeOf (Written.Refused refusal) = refusalNumber refusal
-
-abbrev pub bytesOf : Written → ℕ
-bytesOf (Written.Book bytes) = bytes
-bytesOf (Written.Refused refusal) = 0

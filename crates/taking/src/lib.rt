@@ -1,9 +1,9 @@
 // Registers as bytes taken as a machine again, and its book written.
-use book::Verdict;
-use write::Written;
+use told::Verdict;
+use told::Written;
 ghost use mathlib.Core.Path.{_≡_};
 ghost use Rattle.taking.specs.Claims.{HandedOutIsTaken};
-ghost use Rattle.taking.specs.Taking.{writeFrom, codeOf, bytesOf};
+ghost use Rattle.taking.specs.Taking.{writeFrom};
 
 // The registers read, as a book for no memory, and the book of that machine, RAM and tags written.
 pub fn write_from(registers: &[u8], ram: &[u8], tags: &[u8], book: &mut [u8]) -> Written
@@ -20,24 +20,6 @@ pub fn write_from(registers: &[u8], ram: &[u8], tags: &[u8], book: &mut [u8]) ->
             let m = started.machine;
             write::write_book(m, ram, tags, book)
         }
-    }
-}
-
-pub fn code_of(written: Written) -> u8
-    ensures { λ r. ⌜ r ≡ codeOf written ⌝ }
-{
-    match written {
-        Written::Book(_) => 0,
-        Written::Refused(refusal) => record::refusal_number(refusal),
-    }
-}
-
-pub fn bytes_of(written: Written) -> usize
-    ensures { λ r. ⌜ r ≡ bytesOf written ⌝ }
-{
-    match written {
-        Written::Book(bytes) => bytes,
-        Written::Refused(_) => 0,
     }
 }
 

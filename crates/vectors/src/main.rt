@@ -1,9 +1,9 @@
 // Prints the bench's line of each book and flash of a table. Standard input is a file of the second program's for the bench
 // (`second-cases 1 3000 OUT bench`): of each case a length of 4 bytes and its body, laid out as second/src/generate/format.rs says.
-use answer::Answer;
 use bench::BENCH_RAM;
 use bench::BENCH_TAGS;
 use libc::STDOUT_FILENO;
+use told::Answer;
 ghost use mathlib.Core.Path.{_≡_};
 ghost use lib.ListN.{length};
 

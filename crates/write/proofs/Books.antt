@@ -1,11 +1,11 @@
 -- The laws of a whole book: its parts one after the other, and the writer's answers. Assumes nothing.
 use Prim.Native.Nat.{ℕ, _+_, _*_, _/_, _%_, _≤_, _<_}
-use mathlib.Core.Path.{_≡_, refl, sym, _∙_, ap}
-use mathlib.Core.Bool.{Bool, true, false, cond, not, _&&_}
+use mathlib.Core.Path.{_≡_, refl, _∙_, ap}
+use mathlib.Core.Bool.{Bool, true, false, _&&_}
 use mathlib.Core.List.{List, [], _∷_, _++_}
 use native.Mathlib.Omega.{arith}
-use lib.Dec.{eqb, leb, ltb}
-use lib.ListN.{length, getD, take, drop}
+use lib.Dec.{eqb, leb}
+use lib.ListN.{length, getD, drop}
 use borrow.Author.Tests.{lt-ltb, le-ltb, leb-true, eqb-true}
 use Rattle.num.specs.Number.{toBe}
 use Rattle.mem.specs.Place.{memoryFits, tagsFit}
@@ -14,14 +14,13 @@ use Rattle.store.proofs.Stores.{put-fits}
 use Rattle.cap.specs.declared.Cap.{Cap}
 use Rattle.narrow.specs.Narrow.{null}
 use Rattle.core.specs.declared.Pending.{Pending}
-use Rattle.accept.specs.declared.Refusal as start
-use Rattle.accept.specs.declared.Verdict.{Verdict}
+use Rattle.told.specs.declared.Refusal.{Refusal}
+use Rattle.told.specs.declared.Verdict.{Verdict}
 use Rattle.accept.specs.Accept.{sizesFit, verdictOf}
 use Rattle.core.specs.declared.Machine.{Machine}
-use Rattle.record.specs.declared.Refusal.{Refusal}
-use Rattle.write.specs.declared.Written.{Written}
+use Rattle.told.specs.declared.Written.{Written}
 use Rattle.write.specs.Run.{Runs}
-use Rattle.write.specs.Write.{capPiece, generalPiece, capPieces, generalPieces, linePieces, bookOf, rests, Result, refused, wholly, afterStart}
+use Rattle.write.specs.Write.{capPiece, generalPiece, capPieces, generalPieces, linePieces, bookOf, rests, refused, afterStart}
 use Rattle.checks.proofs.Tests.{both-true}
 use Rattle.write.proofs.Pieces.{run-ends, runs-put, runs-on, cap-most, general-most}
 
@@ -84,7 +83,7 @@ module _ (m : Machine) (ram tags out : List ℕ) where
 
 -- 20 tells how many lines there are
 module _ (caps : List Cap) (pcc : Cap) (pending : Pending) (first : ℕ) (ram tags : List ℕ) where
-  misfit : sizesFit 0 (length ram) (length tags) ≡ false → verdictOf caps pcc pending first 0 ram tags ≡ Verdict.Refused start.Refusal.Sizes
+  misfit : sizesFit 0 (length ram) (length tags) ≡ false → verdictOf caps pcc pending first 0 ram tags ≡ Verdict.Refused Refusal.Sizes
   unfolding verdictOf
   misfit h = rw h
 

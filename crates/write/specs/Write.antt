@@ -9,13 +9,12 @@ use Rattle.store.specs.Store.{tagOf}
 use Rattle.cap.specs.declared.Cap.{Cap}
 use Rattle.narrow.specs.Narrow.{null}
 use Rattle.core.specs.Registers.{isPending}
-use Rattle.accept.specs.declared.Refusal as start
-use Rattle.accept.specs.declared.Verdict.{Verdict}
+use Rattle.told.specs.declared.Refusal.{Refusal}
+use Rattle.told.specs.declared.Verdict.{Verdict}
 use Rattle.accept.specs.Accept.{verdictOf}
 use Rattle.core.specs.declared.Machine.{Machine}
-use Rattle.record.specs.declared.Refusal.{Refusal}
 use Rattle.compose.specs.Compose.{recordOf, capBody, generalBody, lineBody, zeroCap, zeroBytes}
-use Rattle.write.specs.declared.Written.{Written}
+use Rattle.told.specs.declared.Written.{Written}
 
 -- what n numbers from the first on have to say, one after the other
 unfoldable pub pieces : ℕ → ℕ → (ℕ → List ℕ) → List ℕ
@@ -65,13 +64,6 @@ refused refusal out = record { written = Written.Refused refusal; out = out }
 abbrev pub wholly : List ℕ → List ℕ → Result
 wholly book out = record { written = Written.Book (length book); out = book ++ drop (length book) out }
 
--- 20, 21, 22, 24 as of a start
-abbrev pub refusalOf : start.Refusal → Refusal
-refusalOf start.Refusal.Sizes = Refusal.Sizes
-refusalOf start.Refusal.TagByte = Refusal.TagByte
-refusalOf start.Refusal.Top = Refusal.Top
-refusalOf start.Refusal.Width = Refusal.Width
-
 -- 35: a pending jump or a cause other than 0
 abbrev pub rests : Machine → Bool
 rests m = not (isPending (m .pending)) && eqb (m .cause) 0
@@ -85,7 +77,7 @@ afterStart m ram tags out =
 
 abbrev pub afterVerdict : Machine → List ℕ → List ℕ → List ℕ → Verdict → Result
 afterVerdict m ram tags out Verdict.Accepted = afterStart m ram tags out
-afterVerdict m ram tags out (Verdict.Refused refusal) = refused (refusalOf refusal) out
+afterVerdict m ram tags out (Verdict.Refused refusal) = refused refusal out
 
 -- 20 is tested of RAM and tags alone: the writer is lent no flash
 unfoldable pub writeBook : Machine → List ℕ → List ℕ → List ℕ → Result

@@ -1,5 +1,4 @@
 // The writer of start books (01, "The start book").
-use accept::Verdict;
 use cap::Cap;
 use compose::LINE_HEAD;
 use core::Machine;
@@ -8,20 +7,16 @@ use inscribe::GENERAL_RECORD;
 use mem::RAM_BASE;
 use num::LINE;
 use record::PCC;
-use record::Refusal;
+use told::Refusal;
+use told::Verdict;
+use told::Written;
 ghost use mathlib.Core.Path.{_≡_};
 ghost use mathlib.Core.List.{List};
 ghost use Prim.Native.Nat.{ℕ, _+_, _*_, _^_, _≤_};
 ghost use lib.ListN.{length};
 ghost use Rattle.store.specs.Store.{put};
 ghost use Rattle.write.specs.Run.{Runs};
-ghost use Rattle.write.specs.Write.{capPiece, generalPiece, linePiece, capPieces, generalPieces, linePieces, bookOf, refusalOf, afterStart, writeBook};
-
-// What the writer answers: the length of the book that it wrote, or why it wrote nothing.
-pub enum Written {
-    Book(usize),
-    Refused(Refusal),
-}
+ghost use Rattle.write.specs.Write.{capPiece, generalPiece, linePiece, capPieces, generalPieces, linePieces, bookOf, afterStart, writeBook};
 
 // A capability register, where it has a record; the place after it.
 fn write_cap(number: u8, c: Cap, out: &mut [u8], at: usize) -> usize
@@ -117,17 +112,6 @@ fn write_all(m: Machine, ram: &[u8], tags: &[u8], out: &mut [u8]) -> usize
     write_lines(ram, tags, out, registers)
 }
 
-fn refusal_of(refusal: accept::Refusal) -> Refusal
-    ensures { λ r. ⌜ r ≡ refusalOf refusal ⌝ }
-{
-    match refusal {
-        accept::Refusal::Sizes => Refusal::Sizes,
-        accept::Refusal::TagByte => Refusal::TagByte,
-        accept::Refusal::Top => Refusal::Top,
-        accept::Refusal::Width => Refusal::Width,
-    }
-}
-
 // 35 and 36, then the book: a buffer of no byte measures it first.
 fn write_accepted(m: Machine, ram: &[u8], tags: &[u8], out: &mut [u8]) -> Written
     requires { ⌜ (length (now tags) * 32 ≤ length (now ram)) × (length (now tags) ≤ 2048) ⌝ }
@@ -162,7 +146,7 @@ pub fn write_book(machine: Machine, ram: &[u8], tags: &[u8], out: &mut [u8]) -> 
         tags,
     );
     match verdict {
-        Verdict::Refused(refusal) => Written::Refused(refusal_of(refusal)),
+        Verdict::Refused(refusal) => Written::Refused(refusal),
         Verdict::Accepted => write_accepted(machine, ram, tags, out),
     }
 }

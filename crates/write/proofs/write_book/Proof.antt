@@ -11,7 +11,7 @@ requires c κs = lines-there _ _ _ _ _ _ (sym (c .before .enum-told .given .1) �
 
 returns : tie.Need-returns
 unfolding writeBook
-returns c = rw (← sym (c .before .before .verdict .given .1) ∙ c .before .before .before .before .accept .ensures, c .refusal-of .ensures) (refl, refl)
+returns c = rw (← sym (c .before .verdict .given .1) ∙ c .before .before .before .accept .ensures) (refl, refl)
 
 returns-2 : tie.Need-returns-2
 unfolding writeBook
@@ -24,7 +24,6 @@ write-book-spec =
     (λ c. search needs)
     asks
     (λ c. search needs)
-    asks
     (λ c. search needs)
     requires
     returns

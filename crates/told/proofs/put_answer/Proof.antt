@@ -1,10 +1,14 @@
 use native.Mathlib.Omega.{arith}
 use borrow.Author.Needs.{needs}
+use borrow.Author.Tests.{lt-leb, le-leb}
 use denote.Ref.{now}
 use lib.ListN.{length-set}
-use Rattle.pommerzil.proofs.Laws.{five-set}
-use Rattle.pommerzil.proofs.put_answer.Statement.{statement}
-use Rattle.pommerzil.proofs.put_answer.Tie as tie
+use Rattle.told.proofs.Laws.{five-set}
+use Rattle.told.proofs.put_answer.Statement.{statement}
+use Rattle.told.proofs.put_answer.Tie as tie
+
+returns : tie.Need-returns
+returns c = rw (lt-leb 5 _ (c .if1 .taken))
 
 write-2 : tie.Need-slice-write-answer-2
 write-2 c = rw length-set (omega arith)
@@ -15,16 +19,18 @@ write-3 c = rw (length-set, length-set) (omega arith)
 write-4 : tie.Need-slice-write-answer-4
 write-4 c = rw (length-set, length-set, length-set) (omega arith)
 
-returns : tie.Need-returns
-returns c =
-    let s = c .before .before .before .before in
+returns-2 : tie.Need-returns-2
+returns-2 c =
+    let k = c .before .before .before .before in
+    let s = k .before in
     let a = s .args .a in
-    five-set (now (s .args .answer)) (a .stop) (a .cause) (a .register) (a .place) (a .steps) (s .pre)
+    rw (le-leb 5 _ (k .if1 .left)) (five-set (now (s .args .answer)) (a .stop) (a .cause) (a .register) (a .place) (a .steps) (k .if1 .left))
 
 pub put-answer-spec : {M : Type 1} → statement M
 put-answer-spec =
     tie.close
     (tie.spec
+    returns
     (λ c. search needs)
     (λ c. search needs)
     (λ c. search needs)
@@ -35,4 +41,4 @@ put-answer-spec =
     (λ c. search needs)
     (λ c. search needs)
     (λ c. search needs)
-    returns)
+    returns-2)

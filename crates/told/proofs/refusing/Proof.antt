@@ -1,6 +1,6 @@
 use Rattle.num.proofs.Calls.{asks}
-use Rattle.answer.proofs.refusing.Statement.{statement}
-use Rattle.answer.proofs.refusing.Tie as tie
+use Rattle.told.proofs.refusing.Statement.{statement}
+use Rattle.told.proofs.refusing.Tie as tie
 
 returns : tie.Need-returns
 returns c = rw (c .refusal-number .ensures)
