@@ -1,12 +1,12 @@
 -- The laws of the exact sum and of the access test. Assumes nothing.
-use Prim.Native.Nat.{ℕ, zero, suc, _+_, _-_, _%_, _^_, _≤_, _<_}
-use mathlib.Core.Path.{_≡_, refl, sym, _∙_, ap}
-use mathlib.Core.Bool.{Bool, true, false, cond, _&&_}
+use Prim.Native.Nat.{ℕ, suc, _+_, _-_, _%_, _^_, _≤_, _<_}
+use mathlib.Core.Path.{_≡_, refl, ap}
+use mathlib.Core.Bool.{Bool, true, false, cond}
 use native.Mathlib.Omega.{arith}
 use native.Mathlib.Nat.{add-zero, sub-zero, add-assoc}
 use borrow.Author.Tests.{ltb-false, lt-ltb, le-ltb, le-leb, lt-leb}
-use lib.Dec.{ltb, leb}
-use lib.IntN.{ℤ, pos, negsuc, _+ℤ_, subℕ, +ℤ-assoc, +ℤ-comm}
+use lib.Dec.{ltb}
+use lib.IntN.{ℤ, pos, negsuc, _+ℤ_, +ℤ-assoc, +ℤ-comm}
 use Rattle.num.specs.declared.Address.{Address}
 use Rattle.num.specs.declared.Offset.{Offset}
 use Rattle.num.specs.Number.{plusMod, addressAt}

@@ -1,9 +1,8 @@
 -- The test of an access, over whole numbers (01, "Access and fetch").
 use Prim.Native.Nat.{ℕ, suc, _+_, _-_, _%_, _^_}
-use mathlib.Core.Bool.{Bool, true, false, cond, _&&_}
+use mathlib.Core.Bool.{Bool, cond, _&&_}
 use lib.Dec.{ltb, leb, eqb}
 use lib.IntN.{ℤ, pos, negsuc, _+ℤ_}
-use Rattle.num.specs.declared.Address.{Address}
 use Rattle.cap.specs.declared.Cap.{Cap}
 use Rattle.access.specs.declared.Access.{Access}
 

@@ -18,7 +18,6 @@ use Rattle.derive.specs.Derive.{cAndPerm, cClearTag, cIncBase, cSetLen, cSetOff
 use Rattle.plan.specs.declared.Operands.{Operands}
 use Rattle.plan.specs.Plan.{planOf}
 use Rattle.checks.proofs.Tests.{both-true}
-use Rattle.deriving.specs.declared.Capable.{Capable}
 use Rattle.deriving.specs.Deriving.{putsWhere, Leads}
 
 -- an answer that asks for its checks, of an instruction whose unused field is tested first

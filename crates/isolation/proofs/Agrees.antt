@@ -1,29 +1,25 @@
 -- Two memories that agree wherever a member can read or load: the same step of both, after which they agree again. Assumes nothing.
-use Prim.Native.Nat.{ℕ, _+_, _*_, _/_, _%_, _≤_, _<_}
+use Prim.Native.Nat.{ℕ, _+_, _*_, _/_, _%_, _<_}
 use mathlib.Core.Path.{_≡_, refl, sym, ap, ap₂, subst, _∙_}
-use mathlib.Core.Bool.{Bool, true, false, cond, not}
+use mathlib.Core.Bool.{Bool, true, false, not}
 use mathlib.Core.List.{List}
 use native.Mathlib.Omega.{arith}
-use lib.ListN.{length, getD, take, drop}
+use lib.ListN.{length, take, drop}
 use Rattle.num.specs.declared.Address.{Address}
 use Rattle.mem.specs.declared.Place.{Place}
 use Rattle.mem.specs.declared.Place.the-variants.{Flash, Ram, Nowhere}
-use Rattle.mem.specs.declared.Loaded.{Loaded}
 use Rattle.num.specs.Number.{LINE, bytesIn, toBe}
-use Rattle.mem.specs.Place.{RAM-BASE, placeOf, partOf, bytesOf, numberOf, loadOf, placeIn}
-use Rattle.store.specs.Store.{put, tagOf, withTag, tagAt, answerAt, ramAfter, tagsAfter}
+use Rattle.mem.specs.Place.{RAM-BASE, placeOf, partOf, bytesOf, numberOf, placeIn}
+use Rattle.store.specs.Store.{tagAt, answerAt, ramAfter, tagsAfter}
 use Rattle.store.proofs.Stores.{length-put, length-withTag}
 use Rattle.cap.specs.declared.Cap.{Cap}
-use Rattle.cap.specs.Cap.{permits, EXECUTE, LOAD, LOAD-CAPABILITY}
-use Rattle.line.specs.declared.LoadedCap.{LoadedCap}
+use Rattle.cap.specs.Cap.{permits, EXECUTE, LOAD-CAPABILITY}
 use Rattle.line.specs.Line.{encode, decode, capIn, loadCap}
 use Rattle.access.specs.declared.Access.{Access}
 use Rattle.access.specs.Access.{accessOf}
-use Rattle.checks.specs.declared.Fault.{Fault}
 use Rattle.checks.specs.declared.Effect.{Effect}
 use Rattle.checks.specs.declared.Planned.{Planned}
 use Rattle.plan.specs.declared.Operands.{Operands}
-use Rattle.perform.specs.declared.Turn.{Turn}
 use Rattle.fetch.specs.declared.Fetched.{Fetched}
 use Rattle.perform.specs.Perform.{loadedTurn, storedTurn, capTurn, turnOf, ramOf, tagsOf}
 use Rattle.perform.specs.Act.{plannedOf, doneTurn, doneRam, doneTags}
@@ -31,12 +27,12 @@ use Rattle.fetch.specs.Fetch.{wordIn, fetchAt, must, fetchOf, wordOf}
 use Rattle.core.specs.Registers.{isPending}
 use Rattle.core.specs.declared.Machine.{Machine}
 use Rattle.state.specs.State.{operandsOf}
-use Rattle.state.specs.Steps.{fetchedBy, turnAt, ramAt, tagsAt}
+use Rattle.state.specs.Steps.{turnAt, ramAt, tagsAt}
 use Rattle.isolation.specs.Reach.{Memories, lineCap, Held, inPcc, Reads, byLoad, byLoadCapability, byExecute, CanRead, CanLoad}
 use Rattle.isolation.specs.Agree.{Agree}
 use Rattle.isolation.proofs.Ranges.{covers-span}
 use Rattle.isolation.proofs.Lists.{part-eq, put-same, tag-same}
-use Rattle.isolation.proofs.Plans.{Through, Allowed, Passes, planned-good, access-spans}
+use Rattle.isolation.proofs.Plans.{Allowed, Passes, planned-good, access-spans}
 use Rattle.isolation.proofs.Keeps.{At, at-flash, at-ram, at-none, where-is, size-pos, Inv, Via, via, via-line, given, stepped}
 
 module _ (Member : Cap → Type 0) where

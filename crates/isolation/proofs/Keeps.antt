@@ -1,5 +1,5 @@
 -- What a step keeps: whatever is held, and whatever can be loaded, stays under the reach at the start. Assumes nothing.
-use Prim.Native.Nat.{ℕ, zero, suc, _+_, _*_, _-_, _/_, _%_, _^_, _≤_, _<_}
+use Prim.Native.Nat.{ℕ, _+_, _*_, _-_, _/_, _%_, _≤_, _<_}
 use mathlib.Core.Path.{_≡_, refl, sym, ap, ap₂, subst, _∙_}
 use mathlib.Core.Bool.{Bool, true, false, cond}
 use mathlib.Core.Logic.{_≢_}
@@ -8,8 +8,7 @@ use native.Mathlib.Omega.{arith}
 use native.Mathlib.Decide.{ℕ-discrete}
 use borrow.Author.Tests.{leb-true, ltb-false}
 use lib.Dec.{eqb, leb, ltb}
-use lib.ListN.{length, getD, set, take, drop}
-use lib.Seq.{getD-set-other}
+use lib.ListN.{length, take, drop}
 use Rattle.num.specs.declared.Address.{Address}
 use Rattle.num.specs.declared.Size.{Size}
 use Rattle.num.specs.declared.Size.the-variants.{One, Two, Four, Eight, Line}
@@ -17,37 +16,35 @@ use Rattle.mem.specs.declared.Place.{Place}
 use Rattle.mem.specs.declared.Place.the-variants.{Flash, Ram, Nowhere}
 use Rattle.mem.specs.declared.Loaded.{Loaded}
 use Rattle.num.specs.Number.{LINE, bytesIn, toBe}
-use Rattle.mem.specs.Place.{RAM-BASE, placeOf, partOf, bytesOf, loadOf, placeIn}
+use Rattle.mem.specs.Place.{RAM-BASE, placeOf, partOf, bytesOf, loadOf}
 use Rattle.store.specs.Store.{put, tagOf, withTag, tagAt, answerAt, ramAfter, tagsAfter}
 use Rattle.num.proofs.Numbers.{length-toBe}
 use Rattle.store.proofs.Stores.{put-read, length-put, other-tags-stay}
 use Rattle.cap.specs.declared.Cap.{Cap}
-use Rattle.cap.specs.Cap.{permits, STORE, LOAD-CAPABILITY, STORE-CAPABILITY}
+use Rattle.cap.specs.Cap.{permits, LOAD-CAPABILITY}
 use Rattle.narrow.specs.Narrow.{null, incOffset}
 use Rattle.line.specs.declared.LoadedCap.{LoadedCap}
 use Rattle.line.specs.Line.{encode, decode, fromWords, capIn, loadCap}
 use Rattle.line.proofs.Lines.{length-encode}
 use Rattle.isa.specs.Word.{field25, field20, field15, field10}
-use Rattle.checks.specs.declared.Fault.{Fault}
 use Rattle.checks.specs.declared.Effect.{Effect}
 use Rattle.checks.specs.declared.Planned.{Planned}
 use Rattle.plan.specs.declared.Operands.{Operands}
 use Rattle.core.specs.declared.Pending.{Pending}
 use Rattle.perform.specs.declared.Change.{Change}
 use Rattle.perform.specs.declared.Turn.{Turn}
-use Rattle.fetch.specs.declared.Fetched.{Fetched}
-use Rattle.perform.specs.Perform.{toGeneral, toCapability, quiet, loadedTurn, storedTurn, capTurn, turnOf, ramOf, tagsOf}
+use Rattle.perform.specs.Perform.{quiet, loadedTurn, storedTurn, capTurn, turnOf, ramOf, tagsOf}
 use Rattle.perform.specs.Act.{plannedOf, doneTurn, doneRam, doneTags}
 use Rattle.fetch.specs.Fetch.{wordOf}
 use Rattle.core.specs.Registers.{isPending}
 use Rattle.core.specs.declared.Machine.{Machine}
 use Rattle.state.specs.State.{capability, operandsOf, nextPcc, commit}
 use Rattle.state.specs.Steps.{fetchedBy, turnAt, ramAt, tagsAt}
-use Rattle.isolation.specs.Reach.{Memories, Covers, Spans, lineAddress, lineCap, Held, inRegister, inPcc, inPending, Writes, byStore, byStoreCapability, CanLoad, CanWrite}
+use Rattle.isolation.specs.Reach.{Memories, Spans, lineCap, Held, inRegister, inPcc, inPending, Writes, byStore, byStoreCapability, CanLoad, CanWrite}
 use Rattle.isolation.specs.Agree.{Under, Kept}
 use Rattle.isolation.proofs.Ranges.{Fits, Narrows, covers-span, inside-span, inside-trans, narrows-offset}
 use Rattle.isolation.proofs.Lists.{never, part-eq, tag-given, put-outside, all-set}
-use Rattle.isolation.proofs.Plans.{From, Made, Through, Allowed, Given, Passes, planned-good}
+use Rattle.isolation.proofs.Plans.{Made, Through, Allowed, Given, Passes, planned-good}
 use Rattle.isolation.proofs.Stored.{stored-narrows}
 
 -- ---- where an access lies

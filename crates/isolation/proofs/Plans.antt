@@ -1,9 +1,8 @@
 -- What a plan may ask for: each tagged capability that it makes is narrowed from one that is held, and each access goes through one
 -- that is held and has the permission. Assumes nothing.
-use Prim.Native.Nat.{ℕ, _+_, _%_, _^_, _≤_, _<_}
-use mathlib.Core.Path.{_≡_, refl, sym, _∙_, ap}
-use mathlib.Core.Bool.{Bool, true, false, cond, not, _&&_, _||_}
-use mathlib.Core.List.{List}
+use Prim.Native.Nat.{ℕ, _+_, _%_, _^_, _≤_}
+use mathlib.Core.Path.{_≡_, refl, ap}
+use mathlib.Core.Bool.{Bool, true, false, cond, _&&_, _||_}
 use native.Mathlib.Omega.{arith}
 use borrow.Author.Tests.{eqb-true, leb-true}
 use lib.Dec.{eqb, leb}
@@ -11,10 +10,9 @@ use lib.IntN.{ℤ, pos, negsuc}
 use Rattle.num.specs.declared.Address.{Address}
 use Rattle.num.specs.declared.Offset.{Offset}
 use Rattle.num.specs.declared.Size.{Size}
-use Rattle.num.specs.declared.Size.the-variants.{Line}
 use Rattle.num.specs.Number.{LINE, bytesIn}
 use Rattle.cap.specs.declared.Cap.{Cap}
-use Rattle.cap.specs.Cap.{permits, EXECUTE, LOAD, STORE, LOAD-CAPABILITY, STORE-CAPABILITY}
+use Rattle.cap.specs.Cap.{permits, LOAD, STORE, LOAD-CAPABILITY, STORE-CAPABILITY}
 use Rattle.narrow.specs.Narrow.{null, andPerms, incBase, incOffset, setOffset, setLength, fromPtr, sealedBy, unsealedBy}
 use Rattle.access.specs.declared.Access.{Access}
 use Rattle.access.specs.Access as Test
@@ -39,7 +37,7 @@ use Rattle.fetch.specs.declared.Fetched.{Fetched}
 use Rattle.perform.specs.Act.{plannedOf}
 use Rattle.isolation.specs.Reach.{Spans}
 use Rattle.isolation.proofs.Lists.{never}
-use Rattle.isolation.proofs.Ranges.{Fits, Narrows, same-range, narrows-and, narrows-unseal, narrows-seal, narrows-offset, narrows-base}
+use Rattle.isolation.proofs.Ranges.{Narrows, same-range, narrows-and, narrows-unseal, narrows-seal, narrows-offset, narrows-base}
 
 -- ---- where an access lies
 

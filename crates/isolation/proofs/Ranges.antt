@@ -1,13 +1,11 @@
 -- Ranges and permissions, and the narrowings: each is inside what it is made of. Assumes nothing.
 use Prim.Native.Nat.{ℕ, zero, suc, _+_, _*_, _-_, _/_, _%_, _^_, _≤_, _<_, min}
-use mathlib.Core.Path.{_≡_, refl, sym, _∙_, ap}
+use mathlib.Core.Path.{_≡_, refl}
 use mathlib.Core.Bool.{Bool, true, false, cond}
 use native.Mathlib.Omega.{arith}
-use native.Mathlib.Nat.{le-trans, lt-of-le-of-lt}
 use borrow.Author.Tests.{eqb-true, eq-eqb}
 use lib.Bits.{bitAnd, and-shr, and-step, and-le-l}
-use lib.Pow.{shr-shr, shr-le}
-use lib.Dec.{eqb}
+use lib.Pow.{shr-shr}
 use Rattle.num.specs.Number.{plusMod, minusMod}
 use Rattle.cap.specs.declared.Cap.{Cap}
 use Rattle.cap.specs.Cap.{permitted, GLOBAL}

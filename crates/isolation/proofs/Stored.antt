@@ -1,18 +1,16 @@
 -- The bytes of a stored capability hold no more than it did. Assumes nothing.
-use Prim.Native.Nat.{ℕ, _+_, _*_, _/_, _%_, _^_, _≤_, _<_}
-use mathlib.Core.Path.{_≡_, refl, sym, ap, _∙_}
+use Prim.Native.Nat.{ℕ, _+_, _*_, _/_, _%_, _^_, _<_}
+use mathlib.Core.Path.{_≡_}
 use mathlib.Core.Bool.{Bool, true, false}
-use mathlib.Core.List.{List, _++_, append-assoc}
+use mathlib.Core.List.{List}
 use native.Mathlib.Omega.{arith}
-use lib.ListN.{length, take, drop, length-append}
-use lib.Seq.{take-at, drop-at, take-all}
-use Rattle.num.specs.Number.{be, toBe, plusMod}
+use lib.ListN.{length}
+use Rattle.num.specs.Number.{toBe, plusMod}
 use Rattle.store.specs.Store.{bit}
 use Rattle.num.proofs.Numbers.{length-toBe, be-toBe}
 use Rattle.cap.specs.declared.Cap.{Cap}
 use Rattle.line.specs.Line.{firstWord, encode, word, fromWords, decode}
-use Rattle.isolation.specs.Agree.{Inside}
-use Rattle.isolation.proofs.Ranges.{Fits, Narrows}
+use Rattle.isolation.proofs.Ranges.{Narrows}
 use Rattle.line.proofs.Lines.{quarter0, quarter2, quarter3}
 
 module _ (c : Cap) where

@@ -1,25 +1,22 @@
 -- The worked pair, by the claim itself. Assumes nothing.
-use Prim.Native.Nat.{ℕ, zero, suc, _+_, _*_, _/_, _%_, _^_, _≤_, _<_}
+use Prim.Native.Nat.{ℕ, zero, suc, _+_, _<_}
 use mathlib.Core.Path.{_≡_, refl, sym, ap, subst, _∙_}
 use mathlib.Core.Logic.{_⊎_, inl, inr}
-use mathlib.Core.Bool.{Bool, true, false}
-use mathlib.Core.List.{List, [], _∷_, _++_}
+use mathlib.Core.Bool.{true}
+use mathlib.Core.List.{List, _∷_, _++_}
 use native.Mathlib.Omega.{arith}
 use native.Mathlib.Decide.{decLt, ℕ-discrete}
-use lib.Dec.{eqb}
-use borrow.Author.Tests.{eqb-true}
-use lib.ListN.{length, getD, set, replicate, getD-replicate, length-replicate, List·getD-eq-default}
-use lib.Seq.{getD-set-same, getD-set-other}
+use lib.ListN.{getD, set, replicate, getD-replicate, length-replicate, List·getD-eq-default}
+use lib.Seq.{getD-set-other}
 use Rattle.num.specs.Number.{LINE, be, toBe}
 use Rattle.mem.specs.Place.{RAM-BASE, placeOf, bytesOf}
 use Rattle.store.specs.Store.{tagOf}
 use Rattle.cap.specs.declared.Cap.{Cap}
-use Rattle.cap.specs.Cap.{permitted, permits, LOAD-CAPABILITY}
+use Rattle.cap.specs.Cap.{permitted}
 use Rattle.narrow.specs.Narrow.{null}
 use Rattle.line.specs.Line.{word, fromWords, decode, capIn, loadCap}
-use Rattle.core.specs.declared.Pending.{Pending}
 use Rattle.accept.specs.Accept.{every, verdictOf}
-use Rattle.isolation.specs.Reach.{Memories, Covers, Spans, lineAddress, Held, inRegister, inPcc, inPending, Reach, held, line, byLoad, CanRead, CanLoad}
+use Rattle.isolation.specs.Reach.{Covers, Spans, lineAddress, inRegister, inPcc, inPending, Reach, held, line, byLoad, CanRead, CanLoad}
 use Rattle.isolation.specs.Agree.{Agree}
 use Rattle.isolation.specs.Claims.{Accepted}
 use Rattle.isolation.specs.Worked.{text, frame, bus, here, there, WorkedPair}

@@ -1,5 +1,5 @@
 -- One pair of starts, worked out: the code of `bus` holds its text and the first line of RAM; the second line is another's, and differs.
-use Prim.Native.Nat.{ℕ, _*_, _+_, _^_}
+use Prim.Native.Nat.{ℕ, _+_, _^_}
 use mathlib.Core.Path.{_≡_}
 use mathlib.Core.Bool.{true, false}
 use mathlib.Core.List.{List, [], _∷_, _++_}

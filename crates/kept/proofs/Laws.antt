@@ -13,7 +13,7 @@ use Rattle.mem.specs.declared.Place.{Place}
 use Rattle.mem.specs.declared.Place.the-variants.{Flash, Ram, Nowhere}
 use Rattle.num.specs.Number.{LINE, Bytes}
 use Rattle.mem.specs.Place.{tagsFit, partOf, bytesOf, placeIn}
-use Rattle.store.specs.Store.{put, withTag, tagAt, answerAt, ramAfter, tagsAfter}
+use Rattle.store.specs.Store.{put, withTag, tagAt, answerAt}
 use Rattle.mem.proofs.Places.{ram-holds}
 use Rattle.store.proofs.Stores.{put-read, length-put, tag-is-set}
 use Rattle.cap.specs.declared.Cap.{Cap}

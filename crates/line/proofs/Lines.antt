@@ -1,15 +1,15 @@
 -- A capability's bytes: there and back. Assumes nothing.
 use Prim.Native.Nat.{ℕ, zero, suc, _+_, _-_, _*_, _/_, _%_, _^_, _≤_, _<_}
-use mathlib.Core.Path.{_≡_, refl, sym, _∙_, ap, subst}
+use mathlib.Core.Path.{_≡_, refl, _∙_, subst}
 use mathlib.Core.Bool.{Bool, true, false}
-use mathlib.Core.List.{List, [], _∷_, _++_, append-assoc, append-nil}
+use mathlib.Core.List.{List, [], _++_, append-assoc, append-nil}
 use native.Mathlib.Omega.{arith}
 use native.Mathlib.Nat.{mod-eq-of-lt}
 use lib.Dec.{eqb, ltb}
 use borrow.Author.Tests.{ltb-true, ltb-false}
 use lib.Pow.{shr-shr}
-use lib.ListN.{length, getD, take, drop, length-append, length-take, length-drop, take-append-drop, drop-of-length-le, List·getD-eq-default}
-use lib.Seq.{take-at, drop-at, drop-drop, take-length, drop-length, take-all, length-take-le, getD-drop, getD-take}
+use lib.ListN.{length, getD, take, drop, length-append, length-drop, take-append-drop, drop-of-length-le, List·getD-eq-default}
+use lib.Seq.{take-at, drop-at, drop-drop, take-all, length-take-le, getD-drop, getD-take}
 use Rattle.num.specs.Number.{Bytes, be, toBe, plusMod, minusMod}
 use Rattle.store.specs.Store.{bit, put}
 use Rattle.num.proofs.Numbers.{length-toBe, be-toBe, toBe-be, be-lt}

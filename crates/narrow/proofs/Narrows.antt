@@ -1,5 +1,5 @@
 -- The laws of derived capabilities. Assumes nothing.
-use Prim.Native.Nat.{ℕ, _+_, _%_, _^_}
+use Prim.Native.Nat.{_+_, _%_, _^_}
 use mathlib.Core.Path.{_≡_, refl, ap}
 use native.Mathlib.Omega.{arith}
 use Rattle.num.specs.Number.{plusMod, minusMod, addressAt}

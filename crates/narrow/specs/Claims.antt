@@ -1,5 +1,5 @@
 -- What the definitions promise of the top of memory.
-use Prim.Native.Nat.{ℕ, _-_, _^_}
+use Prim.Native.Nat.{_-_, _^_}
 use mathlib.Core.Path.{_≡_}
 use Rattle.cap.specs.declared.Cap.{Cap}
 use Rattle.narrow.specs.Narrow.{incBase}

@@ -1,12 +1,12 @@
 -- The laws of numbers in bytes, over any number of bytes. Assumes nothing.
 use Prim.Native.Nat.{ℕ, zero, suc, _+_, _-_, _*_, _/_, _%_, _^_, _≤_, _<_}
-use mathlib.Core.Path.{_≡_, refl, sym, _∙_, ap, subst}
+use mathlib.Core.Path.{_≡_, refl, sym, _∙_, ap}
 use mathlib.Core.List.{List, [], _∷_, _++_, append-assoc, append-nil}
 use native.Mathlib.Omega.{arith}
 use native.Mathlib.Nat.{mul-assoc, pow-suc, pow-succ', one-le-pow, mod-eq-of-lt, div-eq-of-lt, mod-one, not-suc-le-zero, div-div-eq-div-mul, sub-self, sub-zero, mul-add-div-right, mul-add-mod-self-right}
 use native.Mathlib.Numerals.{add-one}
 use lib.Arith.{digits-lt, digits-div, mod-mul}
-use lib.ListN.{length, getD, take, drop, set, length-append}
+use lib.ListN.{length, getD, take, set, length-append}
 use lib.Seq.{take-suc, take-length, set-at, length-take-le}
 use borrow.Author.Tests.{eq-eqb, ne-eqb}
 use Rattle.num.specs.Number.{Bytes, be, toBe, extendFrom, bytesIn, minusMod}

@@ -1,6 +1,5 @@
 -- Each instruction on the registers that its word names (01, "Instruction words"): in major opcode 18 operands in the order of 004's
 -- Format line fill 20..16, 15..11, 10..6; a transfer has its register in 25..21, cb in 20..16 and rt in 15..11.
-use Prim.Native.Nat.{ℕ}
 use mathlib.Core.Bool.{false}
 use Rattle.isa.specs.declared.Instr.{Instr}
 use Rattle.checks.specs.declared.Effect.{Effect}

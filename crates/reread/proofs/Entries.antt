@@ -1,17 +1,15 @@
 -- The entry of each kind of body. Assumes nothing.
-use Prim.Native.Nat.{ℕ, _+_, _/_, _%_, _^_, _≤_, _<_}
-use mathlib.Core.Path.{_≡_, refl, sym, _∙_, ap}
-use mathlib.Core.Bool.{Bool, true, false, cond, _&&_}
-use mathlib.Core.List.{List, [], _∷_, _++_}
+use Prim.Native.Nat.{ℕ, _/_, _%_, _^_, _≤_, _<_}
+use mathlib.Core.Path.{_≡_, refl}
+use mathlib.Core.Bool.{Bool, true, false}
+use mathlib.Core.List.{List, [], _∷_}
 use native.Mathlib.Omega.{arith}
-use native.Mathlib.Nat.{mod-eq-of-lt}
 use lib.Dec.{eqb, leb, ltb}
-use lib.ListN.{length, getD, take, drop, length-append}
+use lib.ListN.{length, take, drop, length-append}
 use lib.Seq.{drop-at, take-all}
 use borrow.Author.Tests.{le-leb, lt-ltb}
 use Rattle.store.specs.Store.{bit}
 use Rattle.cap.specs.declared.Cap.{Cap}
-use Rattle.cap.specs.Cap.{Within}
 use Rattle.line.specs.Line.{capIn}
 use Rattle.accept.specs.Accept.{topFits, loadedFits}
 use Rattle.record.specs.declared.Entry.{Entry}
@@ -20,7 +18,7 @@ use Rattle.entry.specs.Entry.{isLine, generalOf, lineOf, entryOf}
 use Rattle.fields.specs.Fields.{capOf, capabilityOf}
 use Rattle.book.specs.Book.{afterEntry}
 use Rattle.compose.specs.Compose.{fields, capBody, generalBody, lineBody}
-use Rattle.compose.proofs.Fields.{bytesOf, length-fields}
+use Rattle.compose.proofs.Fields.{length-fields}
 use Rattle.reread.specs.Records.{CapIsRead, GeneralIsRead, LineIsRead}
 use Rattle.reread.proofs.Found.{found, field-at, byte-at, field-of, first-of, byte-of}
 

@@ -1,25 +1,21 @@
 -- A record inside a book: its head, its body, its fields, its entry. Assumes nothing.
-use Prim.Native.Nat.{ℕ, zero, suc, _+_, _-_, _/_, _%_, _^_, _≤_, _<_}
-use mathlib.Core.Path.{_≡_, refl, sym, _∙_, ap, subst}
-use mathlib.Core.Bool.{Bool, true, false, cond, _&&_}
+use Prim.Native.Nat.{ℕ, suc, _+_, _-_, _/_, _%_, _^_, _≤_, _<_}
+use mathlib.Core.Path.{_≡_, refl, _∙_, subst}
 use mathlib.Core.List.{List, [], _∷_, _++_, append-assoc, append-nil}
 use native.Mathlib.Omega.{arith}
 use native.Mathlib.Nat.{mod-eq-of-lt, pow-le-pow-right}
-use lib.Dec.{eqb, leb, ltb}
 use lib.ListN.{length, getD, take, drop, length-append}
 use lib.Seq.{take-at, drop-at, drop-drop, getD-append-add}
-use borrow.Author.Tests.{le-ltb, lt-leb, ne-eqb, eq-eqb, lt-ltb, le-leb}
+use borrow.Author.Tests.{le-ltb, lt-leb, ne-eqb}
 use Rattle.num.specs.Number.{be, toBe}
-use Rattle.store.specs.Store.{bit}
 use Rattle.num.proofs.Numbers.{length-toBe, be-toBe}
 use Rattle.record.specs.declared.Head.{Head}
 use Rattle.record.specs.declared.Entry.{Entry}
 use Rattle.record.specs.Record.{byte, number, bodyAt, headAt}
 use Rattle.entry.specs.Entry.{entryOf}
-use Rattle.book.specs.declared.Step.{Step}
-use Rattle.book.specs.Book.{kindOf, keyOf, inOrder, orderedStep, afterEntry, afterHead, stepAt}
+use Rattle.book.specs.Book.{orderedStep, afterEntry, afterHead, stepAt}
 use Rattle.compose.specs.Compose.{fields, recordOf}
-use Rattle.compose.proofs.Fields.{bytesOf, length-fields}
+use Rattle.compose.proofs.Fields.{bytesOf}
 use Rattle.reread.specs.Records.{Found}
 
 -- the two bytes of a length below 65,536

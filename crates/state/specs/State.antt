@@ -1,7 +1,6 @@
 -- The machine's registers, and what a step leaves in them (01, "What the model is" and "Stop numbers").
 use Prim.Native.Nat.{ℕ, _+_, _*_, _%_}
 use mathlib.Core.Bool.{cond}
-use mathlib.Core.List.{List}
 use lib.ListN.{getD, set}
 use lib.Dec.{eqb}
 use Rattle.cap.specs.declared.Cap.{Cap}

@@ -1,7 +1,6 @@
 -- Many steps: as many as the budget has, or up to the one that stops (01, "Stop numbers").
 use Prim.Native.Nat.{ℕ, zero, suc, _+_}
 use mathlib.Core.List.{List}
-use lib.ListN.{length, getD}
 use Rattle.perform.specs.declared.Turn.{Turn}
 use Rattle.perform.specs.declared.Turn.the-variants.{Next, Stops}
 use Rattle.fetch.specs.declared.Fetched.{Fetched}

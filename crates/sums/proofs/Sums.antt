@@ -1,7 +1,7 @@
 -- The laws of checksums: bytes after bytes, the halves of a number, and one register after the other. Assumes nothing.
 use Prim.Native.Nat.{ℕ, zero, suc, _+_, _*_, _/_, _%_, _^_, _≤_, _<_}
-use mathlib.Core.Path.{_≡_, refl, sym, _∙_, ap}
-use mathlib.Core.List.{List, _∷_, _++_, flatMap, foldl-append}
+use mathlib.Core.Path.{_≡_, sym}
+use mathlib.Core.List.{List, _++_, flatMap, foldl-append}
 use native.Mathlib.Omega.{arith}
 use native.Mathlib.Nat.{add-zero, add-suc, div-div-eq-div-mul, mul-add-mod-self-right}
 use native.Mathlib.Numerals.{add-one}

@@ -1,6 +1,6 @@
 -- The checksums of a case's line, as the second program makes them (second/src/generate/answers.rs).
 use Prim.Native.Nat.{ℕ, _+_, _*_, _%_, _^_}
-use mathlib.Core.List.{List, [], _++_, flatMap, foldl}
+use mathlib.Core.List.{List, _++_, flatMap, foldl}
 use Rattle.num.specs.Number.{toBe}
 use Rattle.store.specs.Store.{bit}
 use Rattle.cap.specs.declared.Cap.{Cap}

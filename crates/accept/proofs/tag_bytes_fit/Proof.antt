@@ -1,5 +1,5 @@
 use Prim.Native.Nat.{ℕ, _-_, _≤_}
-use mathlib.Core.Path.{_≡_, sym, _∙_, ap}
+use mathlib.Core.Path.{_≡_, _∙_, ap}
 use mathlib.Core.Bool.{Bool, not}
 use mathlib.Core.List.{List}
 use native.Mathlib.Omega.{arith}
@@ -7,7 +7,6 @@ use borrow.Author.Needs.{needs}
 use denote.Ref.{now}
 use lib.Dec.{ltb}
 use lib.ListN.{length, getD}
-use Rattle.num.proofs.Calls.{asks}
 use borrow.Author.Tests.{lt-ltb, le-ltb}
 use Rattle.accept.specs.Accept.{every}
 use Rattle.accept.proofs.Scans.{begins, fails, passes, ends}

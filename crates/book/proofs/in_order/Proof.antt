@@ -1,6 +1,4 @@
-use Rattle.num.proofs.Calls.{asks}
 use Rattle.book.proofs.Walks.{rises, falls, goes-on, repeats}
-use borrow.Author.Needs.{needs}
 use Rattle.book.proofs.in_order.Statement.{statement}
 use Rattle.book.proofs.in_order.Tie as tie
 

@@ -1,4 +1,3 @@
-use Rattle.num.proofs.Calls.{asks}
 use borrow.Author.Needs.{needs}
 use Rattle.book.proofs.key_of.Statement.{statement}
 use Rattle.book.proofs.key_of.Tie as tie

@@ -1,5 +1,4 @@
 use Rattle.num.proofs.Calls.{asks}
-use borrow.Author.Needs.{needs}
 use Rattle.book.proofs.ordered.Statement.{statement}
 use Rattle.book.proofs.ordered.Tie as tie
 

@@ -1,7 +1,5 @@
 use mathlib.Core.Path.{sym, refl, _∙_}
 use native.Mathlib.Omega.{arith}
-use borrow.Author.Needs.{needs}
-use borrow.Author.Tests.{leb-true}
 use Rattle.num.proofs.Calls.{asks}
 use Rattle.data.proofs.Reaches.{all-near, a-line-at-most, near-lands, lands-not}
 use Rattle.data.proofs.near.Statement.{statement}

@@ -1,4 +1,3 @@
-use mathlib.Core.Path.{sym, _∙_}
 use Rattle.num.proofs.Calls.{asks}
 use Rattle.data.proofs.Reaches.{reaches, reaches-not}
 use Rattle.data.proofs.reached.Statement.{statement}

@@ -1,7 +1,5 @@
-use Rattle.num.proofs.Calls.{asks}
 use native.Mathlib.Omega.{arith}
 use Rattle.entry.proofs.Laws.{below, between, within, past}
-use borrow.Author.Needs.{needs}
 use Rattle.entry.proofs.is_line.Statement.{statement}
 use Rattle.entry.proofs.is_line.Tie as tie
 

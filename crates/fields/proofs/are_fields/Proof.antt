@@ -1,5 +1,4 @@
 use Rattle.num.proofs.Calls.{asks}
-use borrow.Author.Needs.{needs}
 use Rattle.fields.proofs.are_fields.Statement.{statement}
 use Rattle.fields.proofs.are_fields.Tie as tie
 

@@ -1,5 +1,4 @@
 use borrow.Author.Needs.{needs}
-use Rattle.num.proofs.Calls.{asks}
 use Rattle.immediate.proofs.signed_16.Statement.{statement}
 use Rattle.immediate.proofs.signed_16.Tie as tie
 

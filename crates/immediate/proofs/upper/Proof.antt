@@ -1,5 +1,4 @@
 use borrow.Author.Needs.{needs}
-use Rattle.num.proofs.Calls.{asks}
 use Rattle.immediate.proofs.upper.Statement.{statement}
 use Rattle.immediate.proofs.upper.Tie as tie
 

@@ -1,6 +1,6 @@
 use Rattle.num.proofs.Calls.{asks}
 use Prim.Native.Nat.{_+_, _^_, _<_}
-use mathlib.Core.List.{[], _∷_, _++_}
+use mathlib.Core.List.{[], _∷_}
 use mathlib.Core.Path.{sym, _∙_, ap}
 use native.Mathlib.Omega.{arith}
 use borrow.Author.Tests.{leb-true, leb-false}

@@ -1,14 +1,13 @@
 use Rattle.num.proofs.Calls.{asks}
 use Prim.Native.Nat.{_+_, _^_, _<_}
-use mathlib.Core.List.{[], _∷_, _++_}
-use mathlib.Core.Path.{sym, _∙_, ap}
+use mathlib.Core.List.{[], _∷_}
+use mathlib.Core.Path.{sym, _∙_}
 use native.Mathlib.Omega.{arith}
 use borrow.Author.Tests.{leb-true, leb-false}
 use borrow.Author.Needs.{needs}
 use denote.Ref.{now}
 use lib.ListN.{length}
-use Rattle.store.specs.Store.{bit}
-use Rattle.store.proofs.Stores.{put-out, length-put}
+use Rattle.store.proofs.Stores.{put-out}
 use Rattle.compose.specs.Compose.{recordOf, generalBody}
 use Rattle.compose.proofs.Fields.{record-put, general-bytes}
 use Rattle.inscribe.proofs.put_general.Statement.{statement}

@@ -1,7 +1,7 @@
 -- `mem::load_be` meets its contract. The loop's invariant: `v` is the number that the first `i` bytes say, mod 2^64.
 -- Assumes nothing.
 use Prim.Native.Nat.{_≤_, _-_, _^_, _%_}
-use mathlib.Core.Path.{_≡_, refl, sym, _∙_, ap}
+use mathlib.Core.Path.{_≡_, refl, _∙_, ap}
 use native.Mathlib.Omega.{arith}
 use lib.ListN.{length, take}
 use lib.Seq.{take-all}

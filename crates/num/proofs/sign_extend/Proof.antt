@@ -2,7 +2,6 @@ use native.Mathlib.Nat.{lt-of-lt-of-le}
 use lib.Dec.{lit≤}
 use Rattle.num.specs.Number.{signExtend}
 use Rattle.num.proofs.Numbers.{roomy}
-use native.Mathlib.Omega.{arith}
 use borrow.Author.Needs.{needs}
 use Rattle.num.proofs.sign_extend.Statement.{statement}
 use Rattle.num.proofs.sign_extend.Tie as tie

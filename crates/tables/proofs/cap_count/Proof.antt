@@ -1,4 +1,3 @@
-use borrow.Author.Needs.{needs}
 use Rattle.num.proofs.Calls.{asks}
 use native.Mathlib.Omega.{arith}
 use Rattle.tables.proofs.cap_count.Statement.{statement}

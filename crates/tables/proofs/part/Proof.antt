@@ -1,8 +1,6 @@
-use Prim.Native.Nat.{_+_, _<_}
 use mathlib.Core.Logic.{⊎-elim}
 use native.Mathlib.Omega.{arith}
 use borrow.Author.Needs.{needs}
-use lib.ListN.{length}
 use denote.Ref.{now}
 use Rattle.tables.proofs.Laws.{part-in, part-cut}
 use Rattle.tables.proofs.part.Statement.{statement}

@@ -1,12 +1,9 @@
 use Rattle.num.proofs.Calls.{asks}
-use Prim.Native.Nat.{_≤_}
-use mathlib.Core.Path.{_≡_, refl, sym, _∙_, ap}
-use mathlib.Core.Bool.{Bool, true, false, not}
-use native.Mathlib.Omega.{arith}
+use mathlib.Core.Path.{_≡_, _∙_, ap}
+use mathlib.Core.Bool.{true}
 use borrow.Author.Needs.{needs}
 use borrow.Author.Tests.{not-true, not-false}
 use denote.Ref.{now}
-use lib.ListN.{length}
 use Rattle.write.specs.Write.{Result, rests}
 use Rattle.write.proofs.Books.{waits, same, no-room, written}
 use Rattle.write.proofs.write_accepted.Statement.{statement}

@@ -1,5 +1,5 @@
 use Rattle.num.proofs.Calls.{asks}
-use Prim.Native.Nat.{_+_, _≤_}
+use Prim.Native.Nat.{_≤_}
 use native.Mathlib.Omega.{arith}
 use denote.Ref.{now}
 use Rattle.write.proofs.Books.{caps-end, cap-end, generals-end, book-runs}

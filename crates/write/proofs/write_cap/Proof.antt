@@ -1,8 +1,7 @@
 use Rattle.num.proofs.Calls.{asks}
 use Prim.Native.Nat.{_+_}
-use mathlib.Core.Path.{refl, sym, _∙_, ap}
+use mathlib.Core.Path.{sym, _∙_, ap}
 use borrow.Author.Needs.{needs}
-use denote.Ref.{now}
 use Rattle.compose.proofs.Fields.{cap-bytes}
 use Rattle.write.specs.Write.{capPiece}
 use Rattle.write.proofs.Pieces.{skipped, spelled}

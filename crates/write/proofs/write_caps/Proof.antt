@@ -1,10 +1,9 @@
-use Prim.Native.Nat.{ℕ, _+_, _-_, _*_, _^_, _≤_}
-use mathlib.Core.Path.{_≡_, refl, sym, _∙_}
+use Prim.Native.Nat.{ℕ, _-_, _≤_}
 use mathlib.Core.List.{List}
 use native.Mathlib.Omega.{arith}
 use borrow.Author.Needs.{needs}
 use denote.Ref.{now}
-use lib.ListN.{length, getD}
+use lib.ListN.{getD}
 use Rattle.cap.specs.declared.Cap.{Cap}
 use Rattle.narrow.specs.Narrow.{null}
 use Rattle.write.specs.Run.{Runs}

@@ -1,6 +1,6 @@
 use Rattle.num.proofs.Calls.{asks}
 use Prim.Native.Nat.{_+_}
-use mathlib.Core.Path.{refl, sym, _∙_, ap}
+use mathlib.Core.Path.{sym, ap}
 use borrow.Author.Needs.{needs}
 use borrow.Author.Tests.{eq-eqb, ne-eqb}
 use Rattle.compose.proofs.Fields.{general-bytes}

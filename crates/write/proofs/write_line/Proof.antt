@@ -1,6 +1,4 @@
 use Rattle.num.proofs.Calls.{asks}
-use Prim.Native.Nat.{_+_}
-use mathlib.Core.Path.{refl, sym, _∙_, ap}
 use borrow.Author.Needs.{needs}
 use denote.Ref.{now}
 use Rattle.write.proofs.Pieces.{line-skipped, line-spelled}
