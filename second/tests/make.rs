@@ -288,8 +288,10 @@ fn an_empty_text_makes_the_least_book() {
 
 /// The machine that the sample text describes.
 fn sample_machine() -> Machine {
-    let mut machine = Machine::default();
-    machine.pcc = Cap { tag: true, perms: 3, length: 64, ..Cap::default() };
+    let mut machine = Machine {
+        pcc: Cap { tag: true, perms: 3, length: 64, ..Cap::default() },
+        ..Machine::default()
+    };
     machine.caps[1] = Cap { tag: true, perms: 12, base: RAM_BASE, length: 64, ..Cap::default() };
     machine.caps[2] = Cap {
         tag: false,
