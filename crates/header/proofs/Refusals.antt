@@ -1,6 +1,6 @@
 -- The refusals that a book can have, whatever its bytes. Assumes nothing.
 use Prim.Native.Nat.{ℕ, zero, suc, _+_}
-use mathlib.Core.Bool.{Bool, true, false, cond, _&&_}
+use mathlib.Core.Bool.{_&&_}
 use mathlib.Core.List.{List}
 use lib.Dec.{eqb, leb, ltb}
 use lib.ListN.{length, take, drop}
@@ -16,6 +16,7 @@ use Rattle.book.specs.declared.Step.{Step}
 use Rattle.told.specs.declared.Verdict.{Verdict}
 use Rattle.book.specs.Book.{kindOf, keyOf, inOrder, afterEntry, afterHead, stepAt, walk, checkBook}
 use Rattle.enter.specs.Enter.{judged}
+use Rattle.taking.proofs.Given.{when}
 
 -- a book is refused with 20, 22 and 30 to 34 alone
 abbrev pub OfBook : Refusal → Type 0
@@ -45,10 +46,6 @@ StepFair (Step.More end entry) = Unit {0}
 abbrev pub VerdictFair : Verdict → Type 0
 VerdictFair Verdict.Accepted = Unit {0}
 VerdictFair (Verdict.Refused refusal) = OfBook refusal
-
-pub when : {A : Type 0} (P : A → Type 0) (t : Bool) (x y : A) → P x → P y → P (cond t x y)
-when P true x y p q = p
-when P false x y p q = q
 
 module _ (body : List ℕ) (ram : ℕ) where
   capability-fair : EntryFair (capabilityOf body)

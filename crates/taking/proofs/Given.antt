@@ -47,11 +47,11 @@ taken (suc n) (x ∷ l) h (suc i) = taken n l (λ j. h (suc j)) i
 part : (l : List ℕ) (n i : ℕ) → Bytes l → Bytes (take n (drop i l))
 part l n i h = taken n (drop i l) (λ j. rw (getD-drop i l j 0) (h (i + j)))
 
-module _ (body : List ℕ) (ram : ℕ) (h : Bytes body) where
-  when : (t : Bool) (x y : Entry) → Held x → Held y → Held (cond t x y)
-  when true x y p q = p
-  when false x y p q = q
+pub when : {A : Type 0} (P : A → Type 0) (t : Bool) (x y : A) → P x → P y → P (cond t x y)
+when P true x y p q = p
+when P false x y p q = q
 
+module _ (body : List ℕ) (ram : ℕ) (h : Bytes body) where
   cap-held : Sized (capOf body)
   unfolding capOf
   cap-held = record { spare = h 4; base = omega arith; length = omega arith; offset = omega arith }
@@ -59,26 +59,26 @@ module _ (body : List ℕ) (ram : ℕ) (h : Bytes body) where
   capability-held : Held (capabilityOf body)
   unfolding capabilityOf
   capability-held =
-      when (eqb (length body) 36) _ _
-      (when (leb (byte body 1) 32 && (leb (byte body 2) 1 && (leb (byte body 3) 1 && ltb (byte body 8) 128))) _ _
-      (when (topFits (capOf body)) _ _ cap-held tt) tt) tt
+      when Held (eqb (length body) 36) _ _
+      (when Held (leb (byte body 1) 32 && (leb (byte body 2) 1 && (leb (byte body 3) 1 && ltb (byte body 8) 128))) _ _
+      (when Held (topFits (capOf body)) _ _ cap-held tt) tt) tt
 
   general-held : Held (generalOf body)
   unfolding generalOf
-  general-held = when (eqb (length body) 10) _ _ (when (leb 1 (byte body 1) && leb (byte body 1) 31) _ _ (omega arith) tt) tt
+  general-held = when Held (eqb (length body) 10) _ _ (when Held (leb 1 (byte body 1) && leb (byte body 1) 31) _ _ (omega arith) tt) tt
 
   line-held : Held (lineOf body ram)
   unfolding lineOf
   line-held =
       let tag = eqb (byte body 9) 1 in
-      when (eqb (length body) 42) _ _
-      (when (leb (byte body 9) 1 && isLine (number body 1 8) ram) _ _ (when (loadedFits (capIn tag (take 32 (drop 10 body)))) _ _ tt tt) tt) tt
+      when Held (eqb (length body) 42) _ _
+      (when Held (leb (byte body 9) 1 && isLine (number body 1 8) ram) _ _ (when Held (loadedFits (capIn tag (take 32 (drop 10 body)))) _ _ tt tt) tt) tt
 
   entry-held : Held (entryOf body ram)
   unfolding entryOf
   entry-held =
-      when (eqb (length body) 0) _ _ tt
-      (when (eqb (byte body 0) 1) _ _ capability-held (when (eqb (byte body 0) 2) _ _ general-held (when (eqb (byte body 0) 3) _ _ line-held tt)))
+      when Held (eqb (length body) 0) _ _ tt
+      (when Held (eqb (byte body 0) 1) _ _ capability-held (when Held (eqb (byte body 0) 2) _ _ general-held (when Held (eqb (byte body 0) 3) _ _ line-held tt)))
 
 with-capability : (t : Bool) (m : Machine) (number : ℕ) (c : Cap) → Sized c → Given m
     → Given (cond t (record { general = m .general; caps = m .caps; pcc = c; pending = m .pending; cause = m .cause })
