@@ -12,15 +12,9 @@ use Rattle.cap.specs.declared.Cap.{Cap}
 use Rattle.compose.specs.Compose.{recordOf, capBody}
 use Rattle.compose.proofs.Fields.{cap-bytes, general-bytes}
 use Rattle.core.specs.declared.Machine.{Machine}
-use Rattle.write.specs.Run.{Runs}
-use Rattle.write.specs.Write.{pieces}
-use Rattle.write.proofs.Pieces.{run-next, runs-put, runs-on}
+use Rattle.naming.specs.Run.{pieces, Runs}
+use Rattle.naming.proofs.Runs.{runs-put, runs-on}
 use Rattle.giving.specs.Registers.{capRecords, generalRecords, registersOf, REGISTERS}
-
--- one record more, behind those that are there
-pub even-next : (l : List ℕ) (at first : ℕ) (piece : ℕ → List ℕ) (k m : List ℕ) (end last n j : ℕ) → j ≡ first + n → last ≡ end + length (piece j)
-    → Runs l at (pieces n first piece) k end → m ≡ put k end (piece j) → Runs l at (pieces (n + 1) first piece) m last
-even-next l at first piece k m end last n j e h r p = run-next l at first piece k m end last n j e r (runs-put k m end last (piece j) p h)
 
 version : toBe 1 1 ≡ 1 ∷ []
 unfolding toBe

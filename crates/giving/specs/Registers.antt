@@ -6,7 +6,7 @@ use Rattle.cap.specs.declared.Cap.{Cap}
 use Rattle.narrow.specs.Narrow.{null}
 use Rattle.core.specs.declared.Machine.{Machine}
 use Rattle.compose.specs.Compose.{recordOf, capBody, generalBody}
-use Rattle.write.specs.Write.{pieces}
+use Rattle.naming.specs.Run.{pieces}
 
 -- C0 to C31
 unfoldable pub capRecords : List Cap → List ℕ

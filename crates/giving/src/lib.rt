@@ -6,7 +6,7 @@ use inscribe::GENERAL_RECORD;
 use record::PCC;
 ghost use mathlib.Core.Path.{_≡_};
 ghost use Rattle.store.specs.Store.{put};
-ghost use Rattle.write.specs.Run.{Runs};
+ghost use Rattle.naming.specs.Run.{Runs};
 ghost use Rattle.giving.specs.Registers.{capRecords, generalRecords, registersOf};
 
 // Where the records of PCC and of general register 1 stand among the registers, and where the last one ends.

@@ -24,8 +24,12 @@ use Rattle.state.specs.Steps.{turnAt, ramAt, tagsAt, runFrom}
 use Rattle.state.specs.Run.{runOf}
 use Rattle.state.proofs.Runs.{goes}
 use Rattle.enter.specs.Enter.{judged, readBook}
-use Rattle.write.specs.Write.{Result, rests, capPiece, generalPiece, linePiece, capPieces, generalPieces, linePieces, bookOf, afterStart, afterVerdict, writeBook}
-use Rattle.write.proofs.Pieces.{pieces-most, cap-most, general-most, line-most}
+use Rattle.naming.specs.Naming.{capPiece, generalPiece}
+use Rattle.naming.proofs.Pieces.{cap-most, general-most}
+use Rattle.naming.proofs.Runs.{pieces-most}
+use Rattle.spell.specs.Spell.{linePiece, capPieces, generalPieces, linePieces, bookOf}
+use Rattle.spell.proofs.Books.{line-most}
+use Rattle.write.specs.Write.{Result, rests, afterStart, afterVerdict, writeBook}
 use Rattle.granted.proofs.Accepted.{widths}
 use Rattle.granted.proofs.Read.{read-sound, read-is-accepted}
 use Rattle.giving.specs.Registers.{REGISTERS}

@@ -23,7 +23,8 @@ use Rattle.book.specs.Book.{kindOf, keyOf, afterHead, stepAt}
 use Rattle.book.proofs.Walks.{more-fits}
 use Rattle.compose.specs.Compose.{capBody, generalBody, lineBody, zeroBytes}
 use Rattle.compose.proofs.Fields.{line-bytes}
-use Rattle.write.specs.Write.{lineBytes, rests}
+use Rattle.spell.specs.Spell.{lineBytes}
+use Rattle.write.specs.Write.{rests}
 use Rattle.enter.specs.Enter.{Start, entered, machineWith, ramWith, tagsWith, enterAll, enterBook, bare, judged, readBook}
 use Rattle.reread.specs.Claims.{Typed, WrittenAndRead}
 use Rattle.reread.proofs.Walked.{Passes}

@@ -13,7 +13,7 @@ use Rattle.told.specs.declared.Verdict.{Verdict}
 use Rattle.book.specs.Book.{kindOf, keyOf, inOrder, afterHead, stepAt, walk}
 use Rattle.book.proofs.Walks.{rises, goes-on, walk-done}
 use Rattle.compose.specs.Compose.{recordOf}
-use Rattle.write.specs.Write.{pieces}
+use Rattle.naming.specs.Run.{pieces}
 use Rattle.reread.specs.Records.{Found}
 use Rattle.reread.proofs.Found.{record-end}
 

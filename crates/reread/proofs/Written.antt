@@ -22,12 +22,15 @@ use Rattle.book.specs.Book.{checkBook}
 use Rattle.book.proofs.Walks.{rises, check-start}
 use Rattle.compose.specs.Compose.{recordOf, capBody, generalBody, lineBody, zeroCap, zeroBytes}
 use Rattle.told.specs.declared.Written.{Written}
-use Rattle.write.specs.Write.{pieces, capPiece, generalPiece, lineBytes, linePiece, capPieces, generalPieces, linePieces, bookOf, refused, wholly, rests, afterStart, afterVerdict, writeBook}
-use Rattle.write.proofs.Books.{lines-there}
+use Rattle.naming.specs.Naming.{capPiece, generalPiece}
+use Rattle.naming.specs.Run.{pieces}
+use Rattle.spell.specs.Spell.{lineBytes, linePiece, capPieces, generalPieces, linePieces, bookOf}
+use Rattle.spell.proofs.Books.{lines-there}
+use Rattle.write.specs.Write.{refused, wholly, rests, afterStart, afterVerdict, writeBook}
 use Rattle.reread.specs.Claims.{Typed, WrittenIsAccepted}
 use Rattle.reread.proofs.Entries.{cap-is-read, general-is-read, line-is-read}
 use Rattle.reread.proofs.Walked.{Suffix, further, Goes, goes-end, Upto, upto-next, Passes, accepts, piece-goes, pieces-go}
-use Rattle.accept.proofs.Accepted.{cap-top, pcc-top, cap-width, pcc-width, line-top, bytes-32, loaded-top}
+use Rattle.accept.proofs.Accepted.{sizes-fit, cap-top, pcc-top, cap-width, pcc-width, line-top, bytes-32, loaded-top}
 use Rattle.reread.proofs.Accepted.{within}
 use Rattle.reread.proofs.Filled.{zero-cap}
 
@@ -74,7 +77,7 @@ written-omits m ram tags = refl
 
 module _ (m : Machine) (o : Omits m) (ram tags : List ℕ) (ty : Typed m) (v : Verdict.Accepted ≡ verdictOf (m .caps) (m .pcc) (m .pending) (getD (m .general) 0 0) 0 ram tags) where
   pub there : (length tags * 32 ≤ length ram) × (length tags ≤ 2048)
-  there = lines-there (m .caps) (m .pcc) (m .pending) (getD (m .general) 0 0) ram tags v
+  there = lines-there (length ram) (length tags) (sizes-fit (m .caps) (m .pcc) (m .pending) (getD (m .general) 0 0) 0 ram tags v)
 
   -- A walk over such a book, by what holds before each record: `Caps i` before capability register i, `Caps 32` before PCC, `Generals i` before
   -- general register i, `Lines i` before line i.

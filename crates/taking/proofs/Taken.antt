@@ -11,7 +11,9 @@ use Rattle.accept.specs.Accept.{verdictOf}
 use Rattle.core.specs.declared.Machine.{Machine}
 use Rattle.book.specs.Book.{stepAt}
 use Rattle.enter.specs.Enter.{Start, bare, judged, readBook}
-use Rattle.write.specs.Write.{pieces, linePieces, rests, writeBook}
+use Rattle.naming.specs.Run.{pieces}
+use Rattle.spell.specs.Spell.{linePieces}
+use Rattle.write.specs.Write.{rests, writeBook}
 use Rattle.reread.proofs.Written.{Omits, capsNamed, pccNamed, generalsNamed, bookOmitting}
 use Rattle.reread.proofs.Again.{read-accepted, omitting-read}
 use Rattle.granted.proofs.Sound.{Registers}

@@ -1,2 +1,1 @@
-pub mod Pieces
 pub mod Books

@@ -10,11 +10,9 @@ use Rattle.cap.specs.declared.Cap.{Cap}
 use Rattle.narrow.specs.Narrow.{null}
 use Rattle.compose.specs.Compose.{recordOf, capBody}
 use Rattle.compose.proofs.Fields.{cap-bytes}
-use Rattle.write.specs.Run.{Runs}
-use Rattle.write.specs.Write.{pieces}
-use Rattle.write.proofs.Pieces.{run-begins}
+use Rattle.naming.specs.Run.{pieces, Runs}
+use Rattle.naming.proofs.Runs.{run-begins, run-next}
 use Rattle.giving.specs.Registers.{capRecords}
-use Rattle.giving.proofs.Registers.{even-next}
 use Rattle.giving.proofs.put_caps.Statement.{statement}
 use Rattle.giving.proofs.put_caps.Tie as tie
 
@@ -34,7 +32,7 @@ again : tie.Need-loop-again Inv-loop μ-loop
 again c =
     let l = c .before .before .before .before .before .before .loop in
     let a = c .before .before .before .before .before .before .before .before .args in
-    (omega arith, even-next (now (a .out)) 1 0 (piece (a .t1)) (l .out) _ _ _ (l .i) (l .i) (omega arith) (rw cap-bytes (omega arith)) (l .inv .1) (c .before .before .put-cap .ensures))
+    (omega arith, run-next (now (a .out)) 1 0 (piece (a .t1)) (l .out) _ _ _ (l .i) (l .i) (omega arith) (rw cap-bytes (omega arith)) (l .inv .1) (c .before .before .put-cap .ensures))
 
 returns : tie.Need-returns Inv-loop μ-loop
 unfolding capRecords

@@ -8,11 +8,9 @@ use denote.Ref.{now}
 use lib.ListN.{getD}
 use Rattle.compose.specs.Compose.{recordOf, generalBody}
 use Rattle.compose.proofs.Fields.{general-bytes}
-use Rattle.write.specs.Run.{Runs}
-use Rattle.write.specs.Write.{pieces}
-use Rattle.write.proofs.Pieces.{run-begins}
+use Rattle.naming.specs.Run.{pieces, Runs}
+use Rattle.naming.proofs.Runs.{run-begins, run-next}
 use Rattle.giving.specs.Registers.{generalRecords}
-use Rattle.giving.proofs.Registers.{even-next}
 use Rattle.giving.proofs.put_generals.Statement.{statement}
 use Rattle.giving.proofs.put_generals.Tie as tie
 
@@ -32,7 +30,7 @@ again : tie.Need-loop-again Inv-loop μ-loop
 again c =
     let l = c .before .before .before .before .before .loop in
     let a = c .before .before .before .before .before .before .before .args in
-    (omega arith, even-next (now (a .out)) 1255 1 (piece (a .t1)) (l .out) _ _ _ (l .i) (l .i + 1) (omega arith) (rw general-bytes (omega arith)) (l .inv .1) (c .before .before .put-general .ensures))
+    (omega arith, run-next (now (a .out)) 1255 1 (piece (a .t1)) (l .out) _ _ _ (l .i) (l .i + 1) (omega arith) (rw general-bytes (omega arith)) (l .inv .1) (c .before .before .put-general .ensures))
 
 returns : tie.Need-returns Inv-loop μ-loop
 unfolding generalRecords

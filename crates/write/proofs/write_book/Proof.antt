@@ -2,12 +2,12 @@ use Rattle.num.proofs.Calls.{asks}
 use mathlib.Core.Path.{refl, sym, _∙_}
 use borrow.Author.Needs.{needs}
 use Rattle.write.specs.Write.{writeBook}
-use Rattle.write.proofs.Books.{lines-there}
+use Rattle.accept.proofs.Accepted.{sizes-fit}
 use Rattle.write.proofs.write_book.Statement.{statement}
 use Rattle.write.proofs.write_book.Tie as tie
 
 requires : tie.Need-write-accepted-requires
-requires c κs = lines-there _ _ _ _ _ _ (sym (c .before .enum-told .given .1) ∙ c .before .before .before .accept .ensures)
+requires c κs = sizes-fit _ _ _ _ _ _ _ (sym (c .before .enum-told .given .1) ∙ c .before .before .before .accept .ensures)
 
 returns : tie.Need-returns
 unfolding writeBook

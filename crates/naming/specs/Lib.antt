@@ -1,0 +1,2 @@
+pub mod Naming
+pub mod Run
