@@ -24,7 +24,8 @@ use Rattle.book.proofs.Walks.{more-fits}
 use Rattle.compose.specs.Compose.{capBody, generalBody, lineBody, zeroBytes}
 use Rattle.compose.proofs.Fields.{line-bytes}
 use Rattle.write.specs.Write.{lineBytes, rests}
-use Rattle.enter.specs.Enter.{Start, entered, machineWith, ramWith, tagsWith, enterAll, enterBook, bare, judged, readBook}
+use Rattle.entering.specs.Entering.{Start, entered, machineWith, ramWith, tagsWith, enterAll, enterBook, bare}
+use Rattle.enter.specs.Enter.{judged, readBook}
 use Rattle.reread.specs.Claims.{Typed, WrittenAndRead}
 use Rattle.reread.proofs.Walked.{Passes}
 use Rattle.checks.proofs.Tests.{both-true}

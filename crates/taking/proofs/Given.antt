@@ -20,7 +20,7 @@ use Rattle.fields.specs.Fields.{capOf, capabilityOf}
 use Rattle.book.specs.declared.Step.{Step}
 use Rattle.book.specs.Book.{kindOf, keyOf, stepAt}
 use Rattle.book.proofs.Walks.{more-goes-on}
-use Rattle.enter.specs.Enter.{Start, machineWith, entered, enterAll, zeroMachine}
+use Rattle.entering.specs.Entering.{Start, machineWith, entered, enterAll, zeroMachine}
 use Rattle.reread.specs.Claims.{Sized, Typed}
 use Rattle.granted.proofs.Sound.{set-all}
 use Rattle.granted.proofs.Read.{same}
