@@ -5,7 +5,8 @@ use lib.ListN.{length}
 use Rattle.state.specs.declared.Outcome.{Outcome}
 use Rattle.state.specs.Steps.{Result}
 use Rattle.told.specs.declared.Verdict.{Verdict}
-use Rattle.enter.specs.Enter.{Start, judged, readBook}
+use Rattle.entering.specs.Entering.{Start}
+use Rattle.enter.specs.Enter.{judged, readBook}
 use Rattle.state.specs.Run.{runOf}
 use Rattle.told.specs.declared.Answer.{Answer}
 use Rattle.told.specs.Told.{refusing}

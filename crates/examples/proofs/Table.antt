@@ -29,7 +29,8 @@ use Rattle.entry.specs.Entry.{entryOf, generalOf, isLine, lineOf}
 use Rattle.fields.specs.Fields.{capOf, capabilityOf}
 use Rattle.told.specs.declared.Verdict.{Verdict}
 use Rattle.book.specs.Book.{afterEntry, afterHead, checkBook, inOrder, stepAt, walk}
-use Rattle.enter.specs.Enter.{bare, startAs, enterAll, enterBook, judged, machineWith, ramWith, readBook, tagsWith}
+use Rattle.entering.specs.Entering.{bare, enterAll, enterBook, machineWith, ramWith, tagsWith}
+use Rattle.enter.specs.Enter.{startAs, judged, readBook}
 use Rattle.compose.specs.Compose.{capBody, fields, generalBody, lineBody, recordOf}
 use Rattle.state.specs.Run.{runOf}
 use Rattle.told.specs.declared.Answer.{Answer}

@@ -13,7 +13,7 @@ use Rattle.narrow.specs.Narrow.{null}
 use Rattle.told.specs.declared.Refusal.{Refusal}
 use Rattle.told.specs.declared.Verdict.{Verdict}
 use Rattle.accept.specs.Accept.{every, sizesFit, tagBytesFit, topFits, capsFit, jumpFits, lineFits, linesFit, widthFits, widthsFit, jumpWidth, verdictOf}
-use Rattle.enter.specs.Enter.{Start}
+use Rattle.entering.specs.Entering.{Start}
 use Rattle.accept.proofs.Accepted.{load-line}
 use Rattle.granted.proofs.Sound.{Sound}
 

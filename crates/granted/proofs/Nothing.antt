@@ -21,7 +21,8 @@ use Rattle.state.proofs.Runs.{off, first}
 use Rattle.state.specs.Run.{runOf}
 use Rattle.record.specs.Record.{headAt}
 use Rattle.book.specs.Book.{afterHead, stepAt, walk, checkBook}
-use Rattle.enter.specs.Enter.{Start, zeroMachine, enterAll, judged}
+use Rattle.entering.specs.Entering.{Start, zeroMachine, enterAll}
+use Rattle.enter.specs.Enter.{judged}
 use Rattle.isolation.specs.Reach.{Memories, Held, Reach}
 use Rattle.reread.proofs.Again.{read-accepted}
 use Rattle.granted.specs.Granted.{BookAccepted, read, StartAccepted, NoneTagged, lent, GivesNothing, NothingGranted, allZero, EmptyBook}

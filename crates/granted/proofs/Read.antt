@@ -14,7 +14,8 @@ use Rattle.accept.specs.Accept.{sizesFit}
 use Rattle.told.specs.declared.Refusal.{Refusal}
 use Rattle.told.specs.declared.Verdict.{Verdict}
 use Rattle.book.specs.Book.{checkBook, stepAt}
-use Rattle.enter.specs.Enter.{bare, judged}
+use Rattle.entering.specs.Entering.{bare}
+use Rattle.enter.specs.Enter.{judged}
 use Rattle.checks.proofs.Tests.{both-true}
 use Rattle.accept.proofs.Accepted.{untagged}
 use Rattle.reread.proofs.Again.{read-accepted}

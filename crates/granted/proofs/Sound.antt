@@ -21,8 +21,8 @@ use Rattle.core.specs.declared.Machine.{Machine}
 use Rattle.record.specs.declared.Entry.{Entry}
 use Rattle.book.specs.declared.Step.{Step}
 use Rattle.book.specs.Book.{kindOf, keyOf, stepAt}
-use Rattle.enter.specs.Enter.{Start, machineWith, ramWith, tagsWith, entered, enterAll, LineIsThere}
-use Rattle.enter.proofs.Enters.{there}
+use Rattle.entering.specs.Entering.{Start, machineWith, ramWith, tagsWith, entered, enterAll, LineIsThere}
+use Rattle.entering.proofs.Enters.{there}
 use Rattle.granted.proofs.Says.{Fit, Says, more-says}
 
 -- the registers of a machine that a book set

@@ -10,7 +10,8 @@ use Rattle.accept.specs.Accept.{sizesFit, verdictOf}
 use Rattle.core.specs.declared.Machine.{Machine}
 use Rattle.state.specs.State.{capability}
 use Rattle.state.specs.Run.{runOf}
-use Rattle.enter.specs.Enter.{Start, zeroMachine, judged, readBook}
+use Rattle.entering.specs.Entering.{Start, zeroMachine}
+use Rattle.enter.specs.Enter.{judged, readBook}
 use Rattle.isolation.specs.Reach.{Memories, Reach, CanRead, CanLoad}
 
 -- read_book accepts this book beside these memories, and what it then sets

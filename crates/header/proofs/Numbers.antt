@@ -23,6 +23,7 @@ use Rattle.state.specs.State.{commit, stoppedAt}
 use Rattle.state.specs.Steps.{turnAt, ramAt, tagsAt, runFrom}
 use Rattle.state.specs.Run.{runOf}
 use Rattle.state.proofs.Runs.{goes}
+use Rattle.entry.proofs.Laws.{when}
 use Rattle.enter.specs.Enter.{judged, readBook}
 use Rattle.naming.specs.Naming.{capPiece, generalPiece}
 use Rattle.naming.proofs.Pieces.{cap-most, general-most}
@@ -35,7 +36,6 @@ use Rattle.granted.proofs.Read.{read-sound, read-is-accepted}
 use Rattle.giving.specs.Registers.{REGISTERS}
 use Rattle.handing.specs.Handing.{Read, NO-ROOM, readInto}
 use Rattle.taking.specs.Taking.{writtenBy, writeFrom}
-use Rattle.taking.proofs.Given.{when}
 use Rattle.taking.proofs.Taken.{given}
 use Rattle.answer.specs.Answer.{startedBy, bookRun}
 use Rattle.pommerzil.specs.Exported.{Ran, runInto}
@@ -51,7 +51,7 @@ pub read-numbers : ReadNumbers
 unfolding readInto listed
 read-numbers book flash ram tags registers =
     when (λ (r : Read). listed (r .code) READ-NUMBERS ≡ true) (leb REGISTERS (length registers)) _ _
-    (read-number (judged book flash (length ram) (length tags)) (judged-fair book flash (length ram) (length tags))) refl
+    (λ _. read-number (judged book flash (length ram) (length tags)) (judged-fair book flash (length ram) (length tags))) refl
 
 fault-number : (f : Fault) → listed (stopNumber f) RUN-NUMBERS ≡ true
 unfolding listed
@@ -89,14 +89,14 @@ pub run-numbers : RunNumbers
 unfolding runInto bookRun listed
 run-numbers budget book flash ram tags answer =
     when (λ (r : Ran). listed (r .code) RUN-NUMBERS ≡ true) (leb ANSWER-NUMBERS (length answer)) _ _
-    (started-number budget book flash ram tags (judged book (length flash) (length ram) (length tags)) refl (judged-fair book (length flash) (length ram) (length tags))) refl
+    (λ _. started-number budget book flash ram tags (judged book (length flash) (length ram) (length tags)) refl (judged-fair book (length flash) (length ram) (length tags))) refl
 
 -- a start's verdict, by what is known of its first test and of its last
 by-tests : (P : Verdict → Type 0) (a b d e : Bool) → (a ≡ true → P Verdict.Accepted) → (e ≡ false → P (Verdict.Refused Refusal.Width))
     → P (Verdict.Refused Refusal.Top) → P (Verdict.Refused Refusal.TagByte) → P (Verdict.Refused Refusal.Sizes)
     → P (cond a (cond b (cond d (cond e Verdict.Accepted (Verdict.Refused Refusal.Width)) (Verdict.Refused Refusal.Top)) (Verdict.Refused Refusal.TagByte)) (Verdict.Refused Refusal.Sizes))
-by-tests P true b d true p w top tag sizes = when P b _ _ (when P d _ _ (p refl) top) tag
-by-tests P true b d false p w top tag sizes = when P b _ _ (when P d _ _ (w refl) top) tag
+by-tests P true b d true p w top tag sizes = when P b _ _ (λ _. when P d _ _ (λ _. p refl) top) tag
+by-tests P true b d false p w top tag sizes = when P b _ _ (λ _. when P d _ _ (λ _. w refl) top) tag
 by-tests P false b d e p w top tag sizes = sizes
 
 abbrev widthsOf : Machine → Bool
@@ -121,7 +121,7 @@ module _ (registers ram tags book : List ℕ) where
 
   rest-number : rests machine ≡ true → Told Verdict.Accepted
   unfolding afterStart listed
-  rest-number e = rw e (when (λ (r : Result). listed (codeOf (r .written)) WRITE-NUMBERS ≡ true) (ltb (length book) (length (bookOf machine ram tags))) _ _ refl refl)
+  rest-number e = rw e (when (λ (r : Result). listed (codeOf (r .written)) WRITE-NUMBERS ≡ true) (ltb (length book) (length (bookOf machine ram tags))) _ _ (λ _. refl) refl)
 
   accepted-number : rests machine ≡ true → widthsOf machine ≡ true → listed (codeOf (writeBook machine ram tags book .written)) WRITE-NUMBERS ≡ true
   unfolding writeBook listed
@@ -164,7 +164,7 @@ module _ (m : Machine) (ram tags book : List ℕ) (room : BOOK-BYTES (length ram
   start-roomy e =
       let t : length tags ≡ length ram / LINE = eqb-true (length tags) (length ram / LINE) (sized (memoryFits 0) (memoryFits (length ram)) (tagsFit (length ram) (length tags)) e) in
       rw (le-ltb (length book) (length (bookOf m ram tags)) (omega (arith, t, book-most m ram tags, room)))
-      (when (λ (r : Result). eqb (codeOf (r .written)) NO-ROOM ≡ false) (rests m) _ _ refl refl)
+      (when (λ (r : Result). eqb (codeOf (r .written)) NO-ROOM ≡ false) (rests m) _ _ (λ _. refl) refl)
 
   write-roomy : eqb (codeOf (writeBook m ram tags book .written)) NO-ROOM ≡ false
   unfolding writeBook

@@ -25,7 +25,8 @@ use Rattle.compose.specs.Compose.{capBody, generalBody, lineBody, zeroBytes}
 use Rattle.compose.proofs.Fields.{line-bytes}
 use Rattle.spell.specs.Spell.{lineBytes}
 use Rattle.write.specs.Write.{rests}
-use Rattle.enter.specs.Enter.{Start, entered, machineWith, ramWith, tagsWith, enterAll, enterBook, bare, judged, readBook}
+use Rattle.entering.specs.Entering.{Start, entered, machineWith, ramWith, tagsWith, enterAll, enterBook, bare}
+use Rattle.enter.specs.Enter.{judged, readBook}
 use Rattle.reread.specs.Claims.{Typed, WrittenAndRead}
 use Rattle.reread.proofs.Walked.{Passes}
 use Rattle.checks.proofs.Tests.{both-true}

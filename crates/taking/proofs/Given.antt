@@ -1,26 +1,24 @@
 -- What a machine is that a book gives: every field of its integer type, 32 registers of each sort, no cause. Assumes nothing.
 use Prim.Native.Nat.{ℕ, zero, suc, _+_, _^_, _<_}
 use mathlib.Core.Path.{_≡_, refl, sym, _∙_, subst}
-use mathlib.Core.Bool.{Bool, true, false, cond, _&&_}
+use mathlib.Core.Bool.{Bool, true, false, cond}
 use mathlib.Core.List.{List, [], _∷_}
 use native.Mathlib.Omega.{arith}
-use lib.Dec.{eqb, leb, ltb}
+use lib.Dec.{eqb}
 use lib.ListN.{length, set, take, drop, length-set, length-replicate}
 use lib.Seq.{getD-drop}
 use Rattle.num.specs.Number.{Bytes}
 use Rattle.cap.specs.declared.Cap.{Cap}
 use Rattle.narrow.specs.Narrow.{null}
-use Rattle.accept.specs.Accept.{topFits, loadedFits}
-use Rattle.line.specs.Line.{capIn}
 use Rattle.core.specs.declared.Machine.{Machine}
 use Rattle.record.specs.declared.Entry.{Entry}
-use Rattle.record.specs.Record.{byte, number}
-use Rattle.entry.specs.Entry.{generalOf, isLine, lineOf, entryOf}
-use Rattle.fields.specs.Fields.{capOf, capabilityOf}
+use Rattle.entry.specs.Entry.{entryOf}
+use Rattle.entry.proofs.Laws.{by-kind}
+use Rattle.fields.specs.Fields.{capOf}
 use Rattle.book.specs.declared.Step.{Step}
 use Rattle.book.specs.Book.{kindOf, keyOf, stepAt}
 use Rattle.book.proofs.Walks.{more-goes-on}
-use Rattle.enter.specs.Enter.{Start, machineWith, entered, enterAll, zeroMachine}
+use Rattle.entering.specs.Entering.{Start, machineWith, entered, enterAll, zeroMachine}
 use Rattle.reread.specs.Claims.{Sized, Typed}
 use Rattle.granted.proofs.Sound.{set-all}
 use Rattle.granted.proofs.Read.{same}
@@ -47,38 +45,13 @@ taken (suc n) (x ∷ l) h (suc i) = taken n l (λ j. h (suc j)) i
 part : (l : List ℕ) (n i : ℕ) → Bytes l → Bytes (take n (drop i l))
 part l n i h = taken n (drop i l) (λ j. rw (getD-drop i l j 0) (h (i + j)))
 
-pub when : {A : Type 0} (P : A → Type 0) (t : Bool) (x y : A) → P x → P y → P (cond t x y)
-when P true x y p q = p
-when P false x y p q = q
-
-module _ (body : List ℕ) (ram : ℕ) (h : Bytes body) where
-  cap-held : Sized (capOf body)
-  unfolding capOf
-  cap-held = record { spare = h 4; base = omega arith; length = omega arith; offset = omega arith }
-
-  capability-held : Held (capabilityOf body)
-  unfolding capabilityOf
-  capability-held =
-      when Held (eqb (length body) 36) _ _
-      (when Held (leb (byte body 1) 32 && (leb (byte body 2) 1 && (leb (byte body 3) 1 && ltb (byte body 8) 128))) _ _
-      (when Held (topFits (capOf body)) _ _ cap-held tt) tt) tt
-
-  general-held : Held (generalOf body)
-  unfolding generalOf
-  general-held = when Held (eqb (length body) 10) _ _ (when Held (leb 1 (byte body 1) && leb (byte body 1) 31) _ _ (omega arith) tt) tt
-
-  line-held : Held (lineOf body ram)
-  unfolding lineOf
-  line-held =
-      let tag = eqb (byte body 9) 1 in
-      when Held (eqb (length body) 42) _ _
-      (when Held (leb (byte body 9) 1 && isLine (number body 1 8) ram) _ _ (when Held (loadedFits (capIn tag (take 32 (drop 10 body)))) _ _ tt tt) tt) tt
-
-  entry-held : Held (entryOf body ram)
-  unfolding entryOf
-  entry-held =
-      when Held (eqb (length body) 0) _ _ tt
-      (when Held (eqb (byte body 0) 1) _ _ capability-held (when Held (eqb (byte body 0) 2) _ _ general-held (when Held (eqb (byte body 0) 3) _ _ line-held tt)))
+entry-held : (body : List ℕ) (ram : ℕ) → Bytes body → Held (entryOf body ram)
+unfolding capOf
+entry-held body ram h =
+    by-kind Held body ram tt tt tt tt
+    (λ _ _. record { spare = h 4; base = omega arith; length = omega arith; offset = omega arith })
+    (λ _ _. omega arith)
+    (λ _ _. tt)
 
 with-capability : (t : Bool) (m : Machine) (number : ℕ) (c : Cap) → Sized c → Given m
     → Given (cond t (record { general = m .general; caps = m .caps; pcc = c; pending = m .pending; cause = m .cause })

@@ -10,7 +10,8 @@ use Rattle.told.specs.declared.Verdict.{Verdict}
 use Rattle.accept.specs.Accept.{verdictOf}
 use Rattle.core.specs.declared.Machine.{Machine}
 use Rattle.book.specs.Book.{stepAt}
-use Rattle.enter.specs.Enter.{Start, bare, judged, readBook}
+use Rattle.entering.specs.Entering.{Start, bare}
+use Rattle.enter.specs.Enter.{judged, readBook}
 use Rattle.naming.specs.Run.{pieces}
 use Rattle.spell.specs.Spell.{linePieces}
 use Rattle.write.specs.Write.{rests, writeBook}

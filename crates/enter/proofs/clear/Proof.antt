@@ -1,13 +1,16 @@
-use Prim.Native.Nat.{_-_, _≤_}
-use mathlib.Core.Path.{_≡_, refl}
-use mathlib.Core.List.{_++_}
+use Prim.Native.Nat.{ℕ, _-_, _≤_}
+use mathlib.Core.Path.{_≡_, refl, _∙_}
+use mathlib.Core.List.{List, _++_, append-nil}
 use native.Mathlib.Omega.{arith}
 use borrow.Author.Fill.{fill-none, fill-more}
-use lib.ListN.{length, drop, replicate, length-set}
+use lib.ListN.{length, drop, replicate, length-set, drop-of-length-le}
 use denote.Ref.{now}
-use Rattle.enter.proofs.Enters.{cleared}
 use Rattle.enter.proofs.clear.Statement.{statement}
 use Rattle.enter.proofs.clear.Tie as tie
+
+-- cleared from the front to the end
+cleared : (l ys : List ℕ) (i : ℕ) → ys ≡ replicate i 0 ++ drop i l → i ≤ length l → length l ≤ i → ys ≡ replicate (length l) 0
+cleared l ys i e h k = let z : i ≡ length l = omega arith in e ∙ rw (drop-of-length-le l k, append-nil, z)
 
 abbrev Inv-loop : tie.InvT-loop
 Inv-loop bytes₀ i₀ bytes i = (bytes ≡ replicate i 0 ++ drop i bytes₀) × (i ≤ length bytes₀) × (length bytes ≡ length bytes₀)

@@ -6,10 +6,10 @@ use borrow.Author.Needs.{needs}
 use lib.ListN.{length}
 use denote.Ref.{now}
 use Rattle.mem.specs.Place.{RAM-BASE}
-use Rattle.enter.specs.Enter.{ramWith, tagsWith}
-use Rattle.enter.proofs.Enters.{copied, is-line}
-use Rattle.enter.proofs.put_entry.Statement.{statement}
-use Rattle.enter.proofs.put_entry.Tie as tie
+use Rattle.entering.specs.Entering.{ramWith, tagsWith}
+use Rattle.entering.proofs.Enters.{copied, is-line}
+use Rattle.entering.proofs.put_entry.Statement.{statement}
+use Rattle.entering.proofs.put_entry.Tie as tie
 
 -- the record is a line's
 line : (c : tie.After-known-told)

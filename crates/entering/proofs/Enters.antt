@@ -1,10 +1,10 @@
--- The laws of entering a book: memories cleared, a line copied, and the walk over one record. Assumes nothing.
+-- The laws of entering a book: a line copied, and the walk over one record. Assumes nothing.
 use Prim.Native.Nat.{ℕ, zero, suc, _+_, _-_, _≤_}
 use mathlib.Core.Path.{_≡_, refl, sym, _∙_, subst}
 use mathlib.Core.List.{List, _++_, append-nil}
 use native.Mathlib.Omega.{arith}
 use native.Mathlib.Nat.{add-sub-cancel-left}
-use lib.ListN.{length, take, drop, replicate, length-drop, length-take, drop-of-length-le}
+use lib.ListN.{length, take, drop, length-drop, length-take, drop-of-length-le}
 use lib.Seq.{length-take-le, take-length}
 use Rattle.store.specs.Store.{put}
 use Rattle.store.proofs.Stores.{put-part}
@@ -15,11 +15,7 @@ use Rattle.entry.proofs.Laws.{Fits, entry-fits}
 use Rattle.book.specs.declared.Step.{Step}
 use Rattle.book.specs.Book.{kindOf, keyOf, stepAt}
 use Rattle.book.proofs.Walks.{GoesOn, more-goes-on, more-fits, step-end}
-use Rattle.enter.specs.Enter.{Start, zeroMachine, machineWith, ramWith, tagsWith, entered, enterAll, enterBook, bare, RegisterIsThere, LineIsThere}
-
--- cleared from the front to the end
-pub cleared : (l ys : List ℕ) (i : ℕ) → ys ≡ replicate i 0 ++ drop i l → i ≤ length l → length l ≤ i → ys ≡ replicate (length l) 0
-cleared l ys i e h k = let z : i ≡ length l = omega arith in e ∙ rw (drop-of-length-le l k, append-nil, z)
+use Rattle.entering.specs.Entering.{Start, zeroMachine, machineWith, ramWith, tagsWith, entered, enterAll, enterBook, bare, RegisterIsThere, LineIsThere}
 
 -- 32 bytes of the book copied over a line of the RAM
 pub copied : (book ram ys : List ℕ) (end at : ℕ) → 32 ≤ end → end ≤ length book → at + 32 ≤ length ram

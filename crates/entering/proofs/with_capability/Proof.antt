@@ -1,7 +1,7 @@
 use borrow.Author.Needs.{needs}
 use borrow.Author.Tests.{eq-eqb, ne-eqb}
-use Rattle.enter.proofs.with_capability.Statement.{statement}
-use Rattle.enter.proofs.with_capability.Tie as tie
+use Rattle.entering.proofs.with_capability.Statement.{statement}
+use Rattle.entering.proofs.with_capability.Tie as tie
 
 returns : tie.Need-returns
 returns c = rw (eq-eqb _ _ (c .if1 .taken))

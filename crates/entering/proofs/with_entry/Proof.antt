@@ -1,8 +1,8 @@
 use borrow.Author.Needs.{needs}
-use Rattle.enter.specs.Enter.{machineWith}
-use Rattle.enter.proofs.Enters.{is-register}
-use Rattle.enter.proofs.with_entry.Statement.{statement}
-use Rattle.enter.proofs.with_entry.Tie as tie
+use Rattle.entering.specs.Entering.{machineWith}
+use Rattle.entering.proofs.Enters.{is-register}
+use Rattle.entering.proofs.with_entry.Statement.{statement}
+use Rattle.entering.proofs.with_entry.Tie as tie
 
 with-capability-requires : tie.Need-with-capability-requires
 with-capability-requires c κs = is-register _ _ (c .before .entry .given .1) (c .before .before .before .pre)

@@ -7,10 +7,10 @@ use lib.ListN.{length}
 use denote.Ref.{now}
 use Rattle.book.specs.Book.{stepAt}
 use Rattle.book.proofs.Walks.{more-fits}
-use Rattle.enter.specs.Enter.{Start, enterAll, enterBook, bare}
-use Rattle.enter.proofs.Enters.{holding, begins, ends, breaks, goes-on, registered, there, enters}
-use Rattle.enter.proofs.enter_all.Statement.{statement}
-use Rattle.enter.proofs.enter_all.Tie as tie
+use Rattle.entering.specs.Entering.{Start, enterAll, enterBook, bare}
+use Rattle.entering.proofs.Enters.{holding, begins, ends, breaks, goes-on, registered, there, enters}
+use Rattle.entering.proofs.enter_all.Statement.{statement}
+use Rattle.entering.proofs.enter_all.Tie as tie
 
 abbrev Inv-loop : tie.InvT-loop
 Inv-loop book ram₀ tags₀ size machine₀ at₀ kind₀ key₀ ram tags machine at kind key =

@@ -1,6 +1,6 @@
 use Rattle.num.proofs.Calls.{asks}
-use Rattle.enter.proofs.zero_machine.Statement.{statement}
-use Rattle.enter.proofs.zero_machine.Tie as tie
+use Rattle.entering.proofs.zero_machine.Statement.{statement}
+use Rattle.entering.proofs.zero_machine.Tie as tie
 
 returns : tie.Need-returns
 returns c = rw (c .no-cap .ensures)
