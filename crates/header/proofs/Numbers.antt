@@ -33,8 +33,8 @@ use Rattle.handing.specs.Handing.{Read, NO-ROOM, readInto}
 use Rattle.taking.specs.Taking.{writtenBy, writeFrom}
 use Rattle.taking.proofs.Given.{when}
 use Rattle.taking.proofs.Taken.{given}
-use Rattle.answer.specs.Answer.{startedBy, bookRun}
-use Rattle.pommerzil.specs.Exported.{Ran, runInto}
+use Rattle.asked.specs.Answer.{startedBy, bookRun}
+use Rattle.asked.specs.Exported.{Ran, runInto}
 use Rattle.header.specs.Header.{listed, RUN-NUMBERS, READ-NUMBERS, WRITE-NUMBERS, BOOK-BYTES, RunNumbers, ReadNumbers, WriteNumbers, RoomForEvery}
 use Rattle.header.proofs.Refusals.{VerdictFair, judged-fair, each}
 
