@@ -11,7 +11,7 @@ use Rattle.enter.specs.Enter.{judged, readBook}
 use Rattle.state.specs.Run.{runOf}
 use Rattle.told.specs.declared.Answer.{Answer}
 use Rattle.told.specs.Told.{refusing}
-use Rattle.answer.specs.Answer.{Benched, answerOf, bookRun}
+use Rattle.asked.specs.Answer.{Benched, answerOf, bookRun}
 
 -- an answer and what RAM and tags hold then, taken together
 abbrev pub Gives : Answer → List ℕ → List ℕ → Benched → Type 0

@@ -1,21 +1,8 @@
 // A start book read and, where it is accepted, run: what is told of it.
-use state::Outcome;
 use told::Answer;
 use told::Verdict;
 ghost use mathlib.Core.Path.{_≡_};
-ghost use Rattle.answer.specs.Answer.{answerOf, bookRun};
-
-fn answer_of(o: Outcome) -> Answer
-    ensures { λ r. ⌜ r ≡ answerOf o ⌝ }
-{
-    Answer {
-        stop: o.stop,
-        cause: o.cause,
-        register: o.register,
-        place: o.place,
-        steps: o.steps,
-    }
-}
+ghost use Rattle.asked.specs.Answer.{bookRun};
 
 // The book read and, where it is accepted, run, with memories of any size and any budget.
 pub fn run_book(book: &[u8], flash: &[u8], ram: &mut [u8], tags: &mut [u8], budget: u32) -> Answer
@@ -29,7 +16,7 @@ pub fn run_book(book: &[u8], flash: &[u8], ram: &mut [u8], tags: &mut [u8], budg
         Verdict::Refused(refusal) => told::refusing(refusal),
         Verdict::Accepted => {
             let m = started.machine;
-            answer_of(machine::run(m, flash, ram, tags, budget))
+            asked::answer_of(machine::run(m, flash, ram, tags, budget))
         }
     }
 }

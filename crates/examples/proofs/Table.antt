@@ -35,8 +35,8 @@ use Rattle.compose.specs.Compose.{capBody, fields, generalBody, lineBody, recor
 use Rattle.state.specs.Run.{runOf}
 use Rattle.told.specs.declared.Answer.{Answer}
 use Rattle.told.specs.Told.{refusing}
-use Rattle.bench.specs.Bench.{BENCH-RAM, BUDGET, FILE-MOST, benchOf}
-use Rattle.answer.specs.Answer.{answerOf, startedBy, bookRun}
+use Rattle.asked.specs.Bench.{BENCH-RAM, BUDGET, FILE-MOST, benchOf}
+use Rattle.asked.specs.Answer.{answerOf, startedBy, bookRun}
 use Rattle.examples.specs.Table.{Row, table}
 use Rattle.examples.specs.Claims.{BenchTable}
 use Rattle.granted.proofs.Read.{read-is-accepted}

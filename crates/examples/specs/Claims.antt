@@ -4,7 +4,7 @@ use mathlib.Core.Path.{_≡_}
 use mathlib.Core.List.{List, map}
 use lib.ListN.{length}
 use Rattle.num.specs.Number.{LINE}
-use Rattle.bench.specs.Bench.{BENCH-RAM, benchOf}
+use Rattle.asked.specs.Bench.{BENCH-RAM, benchOf}
 use Rattle.examples.specs.Table.{Row, table}
 
 -- the bench prints of each row what the row says, whatever its RAM and tags held before

@@ -9,7 +9,7 @@ use Rattle.num.specs.Number.{LINE, Bytes}
 use Rattle.handing.specs.Handing.{NO-ROOM, readInto}
 use Rattle.told.specs.Told.{codeOf}
 use Rattle.taking.specs.Taking.{writeFrom}
-use Rattle.pommerzil.specs.Exported.{runInto}
+use Rattle.asked.specs.Exported.{runInto}
 
 unfoldable pub listed : ℕ → List ℕ → Bool
 listed n [] = false

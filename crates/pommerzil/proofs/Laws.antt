@@ -7,8 +7,8 @@ use lib.ListN.{length}
 use Rattle.told.specs.declared.Written.{Written}
 use Rattle.told.specs.declared.Answer.{Answer}
 use Rattle.told.specs.Told.{over, ANSWER-NUMBERS, numbersOf, codeOf, bytesOf, answerPut}
-use Rattle.answer.specs.Answer.{bookRun}
-use Rattle.pommerzil.specs.Exported.{runInto}
+use Rattle.asked.specs.Answer.{bookRun}
+use Rattle.asked.specs.Exported.{runInto}
 
 -- a book that was run, and its answer put
 module _ (budget : ℕ) (book flash ram tags answer : List ℕ) (room : ANSWER-NUMBERS ≤ length answer) (a : Answer) (ram′ tags′ answer′ : List ℕ)

@@ -3,7 +3,7 @@ use told::ANSWER_NUMBERS;
 use told::Refusal;
 ghost use mathlib.Core.Path.{_≡_};
 ghost use Rattle.handing.specs.Handing.{readInto};
-ghost use Rattle.pommerzil.specs.Exported.{runInto};
+ghost use Rattle.asked.specs.Exported.{runInto};
 ghost use Rattle.taking.specs.Taking.{writeFrom};
 ghost use Rattle.told.specs.Told.{codeOf, bytesOf};
 

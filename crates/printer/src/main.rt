@@ -1,8 +1,8 @@
 // Prints the bench's line for `start.book` and `flash.bin` of the folder that it runs in: stop or refusal, cause code, register,
 // place, steps (01, "Bench examples").
-use bench::BENCH_RAM;
-use bench::BENCH_TAGS;
-use bench::FILE_MOST;
+use asked::BENCH_RAM;
+use asked::BENCH_TAGS;
+use asked::FILE_MOST;
 use libc::STDOUT_FILENO;
 use told::Answer;
 ghost use mathlib.Core.Path.{_≡_};

@@ -1,7 +1,7 @@
 // Prints the bench's line of each book and flash of a table. Standard input is a file of the second program's for the bench
 // (`second-cases 1 3000 OUT bench`): of each case a length of 4 bytes and its body, laid out as second/src/generate/format.rs says.
-use bench::BENCH_RAM;
-use bench::BENCH_TAGS;
+use asked::BENCH_RAM;
+use asked::BENCH_TAGS;
 use libc::STDOUT_FILENO;
 use told::Answer;
 ghost use mathlib.Core.Path.{_≡_};

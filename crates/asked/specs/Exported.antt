@@ -4,9 +4,9 @@ use mathlib.Core.Bool.{cond}
 use mathlib.Core.List.{List}
 use lib.ListN.{length}
 use lib.Dec.{leb}
-use Rattle.told.specs.Told.{ANSWER-NUMBERS, numbersOf, over}
-use Rattle.handing.specs.Handing.{NO-ROOM}
-use Rattle.answer.specs.Answer.{Benched, bookRun}
+use Rattle.told.specs.declared.Refusal.{Refusal}
+use Rattle.told.specs.Told.{ANSWER-NUMBERS, numbersOf, over, refusalNumber}
+use Rattle.asked.specs.Answer.{Benched, bookRun}
 
 -- pommerzil_run: what is returned, and the buffers then
 pub record Ran : Type 0 where
@@ -22,4 +22,4 @@ answered b answer = record { code = b .answer .stop; ram = b .ram; tags = b .tag
 unfoldable pub runInto : ℕ → List ℕ → List ℕ → List ℕ → List ℕ → List ℕ → Ran
 runInto budget book flash ram tags answer =
     cond (leb ANSWER-NUMBERS (length answer)) (answered (bookRun budget book flash ram tags) answer)
-    (record { code = NO-ROOM; ram = ram; tags = tags; answer = answer })
+    (record { code = refusalNumber Refusal.Room; ram = ram; tags = tags; answer = answer })

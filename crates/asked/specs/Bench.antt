@@ -1,12 +1,13 @@
 -- The bench's answer for a book and a flash (01, "Bench examples").
-use Prim.Native.Nat.{ℕ}
+use Prim.Native.Nat.{ℕ, _/_}
 use mathlib.Core.Bool.{Bool, cond, _&&_}
-use mathlib.Core.List.{List}
+use mathlib.Core.List.{List, [], _∷_}
 use lib.ListN.{length}
 use lib.Dec.{eqb, leb}
+use Rattle.num.specs.Number.{LINE}
 use Rattle.told.specs.declared.Refusal.{Refusal}
 use Rattle.told.specs.Told.{refusing}
-use Rattle.answer.specs.Answer.{Benched, bookRun}
+use Rattle.asked.specs.Answer.{Benched, bookRun}
 
 -- 32,768 bytes of RAM and a budget of 1,000
 abbrev pub BENCH-RAM : ℕ
@@ -18,6 +19,10 @@ BUDGET = 1000
 -- the largest file
 abbrev pub FILE-MOST : ℕ
 FILE-MOST = 65536
+
+-- all of them, and one tag for each line of RAM
+abbrev pub benchNumbers : List ℕ
+benchNumbers = BENCH-RAM ∷ BENCH-RAM / LINE ∷ FILE-MOST ∷ BUDGET ∷ []
 
 -- a file over 65,536 bytes is 20 (a flash over it is of a wrong size in any case), and so is a RAM that is not the bench's
 abbrev pub benchFits : ℕ → ℕ → Bool

@@ -1,0 +1,3 @@
+pub mod Answer
+pub mod Bench
+pub mod Exported
