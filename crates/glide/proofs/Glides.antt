@@ -1,56 +1,30 @@
--- The laws of gliding: one plain step more, as the run's definition makes it. Assumes nothing.
-use Prim.Native.Nat.{ℕ, suc, _+_, _-_, _%_, _≤_}
-use mathlib.Core.Path.{_≡_, refl, sym, _∙_, ap}
-use mathlib.Core.Bool.{Bool, true, false}
-use mathlib.Core.List.{List, [], _∷_}
+-- The laws of gliding: one step more that looks at capability registers, and those that slide, as the run's definition makes them.
+-- Assumes nothing.
+use Prim.Native.Nat.{ℕ, _+_, _-_, _%_, _≤_}
+use mathlib.Core.Path.{_≡_, refl, sym, _∙_}
+use mathlib.Core.List.{List}
 use native.Mathlib.Omega.{arith}
 use lib.ListN.{getD, set}
-use Rattle.num.specs.declared.Offset.{Offset}
 use Rattle.cap.specs.declared.Cap.{Cap}
-use Rattle.narrow.specs.Narrow.{null, setOffset, incOffset}
+use Rattle.narrow.specs.Narrow.{null, setOffset}
 use Rattle.isa.specs.Word.{field25, field20, field15, field10}
-use Rattle.isa.specs.Decode.{decodeWord}
-use Rattle.branch.specs.Branch.{branchOffset, branchTo}
-use Rattle.checks.specs.declared.Planned.{Planned}
-use Rattle.checks.specs.Checks.{settle}
-use Rattle.plan.specs.declared.Operands.{Operands}
-use Rattle.plan.specs.Plan.{planOf}
-use Rattle.perform.specs.declared.Change.{Change}
 use Rattle.core.specs.declared.Pending.{Pending}
-use Rattle.fetch.specs.declared.Fetched.{Fetched}
-use Rattle.perform.specs.Perform.{toGeneral}
-use Rattle.fetch.specs.Fetch.{fetchOf, wordOf, aheadOf}
 use Rattle.core.specs.Registers.{isPending}
-use Rattle.special.specs.declared.Plain.{Plain}
-use Rattle.special.specs.Special.{Does, Untouched, Means, Amounts}
-use Rattle.plain.specs.Plain.{Sees, Plainly}
-use Rattle.plain.proofs.Laws.{ahead-goes}
+use Rattle.fetch.specs.Fetch.{fetchOf, wordOf, aheadOf}
+use Rattle.special.specs.Special.{Amounts}
 use Rattle.deriving.specs.declared.Capable.{Capable}
 use Rattle.capable.specs.Capable.{Shows, Capably}
 use Rattle.state.specs.State.{operandsOf, kept, nextPcc, commit}
-use Rattle.state.specs.Steps.{turnAt, ramAt, tagsAt, runFrom}
-use Rattle.glide.specs.Glide.{nextAt, waitingAt, holding, Glides}
-use Rattle.state.proofs.Runs.{goes}
-
--- the operands of the step at PCC
-abbrev here-operands : List ℕ → List ℕ → List ℕ → List Cap → Cap → Pending → ℕ → Operands
-here-operands flash ram g caps pcc pending cause = operandsOf (holding g caps pcc pending cause) (wordOf (fetchOf flash ram pcc))
-
--- what that step plans
-abbrev here-planned : List ℕ → List ℕ → List ℕ → List Cap → Cap → Pending → ℕ → Planned
-here-planned flash ram g caps pcc pending cause = settle (planOf (here-operands flash ram g caps pcc pending cause) (decodeWord (aheadOf (isPending pending) (fetchOf flash ram pcc))))
+use Rattle.state.specs.Steps.{runFrom}
+use Rattle.way.specs.declared.Way.{Way}
+use Rattle.way.specs.Way.{waitingAt, onFrom}
+use Rattle.slide.specs.Slide.{holding, Glides, Sees}
+use Rattle.slide.proofs.Slides.{here-operands, here-planned, then-goes, set-general, next-is, slot-is}
+use Rattle.glide.specs.Glide.{CapablyBy}
 
 -- what an answer of the shorter way says of the step, whatever the cause
-pub record Tells (flash g : List ℕ) (caps : List Cap) (pcc : Cap) (pending : Pending) (ram tags ram′ tags′ : List ℕ) (r : Plain) : Type 0 where
-  pub tells : (cause : ℕ) → Means (here-operands flash ram g caps pcc pending cause) (here-planned flash ram g caps pcc pending cause) flash ram tags ram′ tags′ r
-
 pub record Adds (flash g : List ℕ) (caps : List Cap) (pcc : Cap) (pending : Pending) (ram tags ram′ tags′ : List ℕ) (r : Capable) : Type 0 where
   pub adds : (cause : ℕ) → Amounts (here-operands flash ram g caps pcc pending cause) (here-planned flash ram g caps pcc pending cause) flash ram tags ram′ tags′ r
-
-sees : (g : List ℕ) (caps : List Cap) (pcc : Cap) (pending : Pending) (w cause : ℕ)
-    → Sees (operandsOf (holding g caps pcc pending cause) w) (field20 w) (field15 w) (getD g (field25 w) 0) (getD g (field20 w) 0) (getD caps 0 null)
-unfolding operandsOf
-sees g caps pcc pending w cause = record { is-n20 = refl; is-n15 = refl; is-g25 = refl; is-g20 = refl; is-c0 = refl }
 
 shows : (g : List ℕ) (caps : List Cap) (pcc : Cap) (pending : Pending) (w cause : ℕ)
     → Shows (operandsOf (holding g caps pcc pending cause) w) (field25 w) (field20 w) (getD g (field25 w) 0) (getD g (field15 w) 0) (getD g (field10 w) 0) pcc (getD caps (field25 w) null)
@@ -58,99 +32,55 @@ shows : (g : List ℕ) (caps : List Cap) (pcc : Cap) (pending : Pending) (w caus
 unfolding operandsOf
 shows g caps pcc pending w cause = record { is-n25 = refl; is-n20 = refl; is-g25 = refl; is-g15 = refl; is-g10 = refl; is-pcc = refl; is-c25 = refl; is-c20 = refl; is-c15 = refl }
 
--- what the code hands over is what the word names
-module _ (flash g : List ℕ) (caps : List Cap) (pcc : Cap) (pending : Pending) (ram tags ram′ tags′ : List ℕ) (here : Cap) (fetched : Fetched) (w i : ℕ) (slot : Bool) (i25 i20 i15 : ℕ)
-    (fh : here ≡ pcc) (f : fetched ≡ fetchOf flash ram here) (fw : w ≡ wordOf fetched) (fs : slot ≡ isPending pending) (fi : i ≡ aheadOf slot fetched) (f25 : i25 ≡ field25 w) (f20 : i20 ≡ field20 w) (f15 : i15 ≡ field15 w) where
-  pub told : (r : Plain) → Plainly (decodeWord i) i20 i15 (getD g i25 0) (getD g i20 0) (getD caps 0 null) flash ram tags ram′ tags′ r → Tells flash g caps pcc pending ram tags ram′ tags′ r
-  told r did = record {
-    tells = λ cause.
-        (rw (fi, fs, f25, f20, f15, fw, f, fh) at did) (here-operands flash ram g caps pcc pending cause) (sees g caps pcc pending (wordOf (fetchOf flash ram pcc)) cause);
-  }
-
-  pub added : (ram₁ tags₁ : List ℕ) (i10 : ℕ) (r : Capable) → Untouched ram tags ram₁ tags₁ → i10 ≡ field10 w
-      → Capably (decodeWord i) i25 i20 (getD g i25 0) (getD g i15 0) (getD g i10 0) here (getD caps i25 null) (record { cap = getD caps i20 null; number = i20 }) (record { cap = getD caps i15 null; number = i15 }) flash ram₁ tags₁ ram′ tags′ r
-      → Adds flash g caps pcc pending ram tags ram′ tags′ r
-  added ram₁ tags₁ i10 r u f10 did = record {
-    adds = λ cause.
-        (rw (u .0, u .1, fi, fs, f10, f25, f20, f15, fw, f, fh) at did) (here-operands flash ram g caps pcc pending cause) (shows g caps pcc pending (wordOf (fetchOf flash ram pcc)) cause);
-  }
-
--- C0 written as it was
-same-first : (caps : List Cap) → set caps 0 (getD caps 0 null) ≡ caps
-same-first [] = refl
-same-first (c ∷ cs) = refl
-
--- a step that its plan lets go on is a step of the definition
-step-goes : (flash g : List ℕ) (caps : List Cap) (pcc : Cap) (pending : Pending) (ram tags ram′ tags′ : List ℕ) (cause k s : ℕ) (d : Change)
-    → Does (here-operands flash ram g caps pcc pending cause) (here-planned flash ram g caps pcc pending cause) flash ram tags ram′ tags′ d
-    → runFrom (suc k) s flash (holding g caps pcc pending cause) ram tags ≡ runFrom k (s + 1) flash (commit (holding g caps pcc pending cause) d) ram′ tags′
-unfolding turnAt ramAt tagsAt
-step-goes flash g caps pcc pending ram tags ram′ tags′ cause k s d e =
-    let o = here-operands flash ram g caps pcc pending cause in
-    let x = rw (ahead-goes o (isPending pending) (fetchOf flash ram pcc) flash ram tags d (e .0)) at e in
-    goes k s flash ram tags (holding g caps pcc pending cause) d (x .0) ∙ rw (x .1 .0, x .1 .1)
-
 module _ (flash g₀ : List ℕ) (caps₀ : List Cap) (pcc₀ : Cap) (pending₀ : Pending) (ram₀ tags₀ : List ℕ) (n : ℕ) (g : List ℕ) (caps : List Cap) (pcc : Cap) (pending : Pending) (ram tags ram′ tags′ : List ℕ)
     (so-far : Glides flash g₀ caps₀ pcc₀ pending₀ ram₀ tags₀ n g caps pcc pending ram tags) where
-  -- from here on, one step of the definition
-  onward : (cause k s : ℕ) → runFrom (n + 1 + k) s flash (holding g₀ caps₀ pcc₀ pending₀ cause) ram₀ tags₀ ≡ runFrom (suc k) (s + n) flash (holding g caps pcc pending cause) ram tags
-  onward cause k s = let e : n + 1 + k ≡ n + suc k = omega arith in rw e (so-far .leads cause (suc k) s)
-
-  then-goes : (cause k s : ℕ) (d : Change) → Does (here-operands flash ram g caps pcc pending cause) (here-planned flash ram g caps pcc pending cause) flash ram tags ram′ tags′ d
-      → runFrom (n + 1 + k) s flash (holding g₀ caps₀ pcc₀ pending₀ cause) ram₀ tags₀ ≡ runFrom k (s + (n + 1)) flash (commit (holding g caps pcc pending cause) d) ram′ tags′
-  then-goes cause k s d e = let q : s + (n + 1) ≡ s + n + 1 = omega arith in rw q (onward cause k s ∙ step-goes flash g caps pcc pending ram tags ram′ tags′ cause k (s + n) d e)
-
-  set-general : (rd v v′ : ℕ) (pcc′ : Cap) → v′ ≡ kept (rd % 32) v → pcc′ ≡ nextPcc pcc pending
-      → ((cause : ℕ) → Does (here-operands flash ram g caps pcc pending cause) (here-planned flash ram g caps pcc pending cause) flash ram tags ram′ tags′ (toGeneral (here-operands flash ram g caps pcc pending cause .c0 .cap) (here-operands flash ram g caps pcc pending cause .cause) rd v))
+  also-sets : (r : Capable) (rd v v′ : ℕ) (pcc′ : Cap) → Adds flash g caps pcc pending ram tags ram′ tags′ r → r ≡ Capable.Sets rd v → v′ ≡ kept (rd % 32) v → pcc′ ≡ nextPcc pcc pending
       → Glides flash g₀ caps₀ pcc₀ pending₀ ram₀ tags₀ (n + 1) (set g (rd % 32) v′) caps pcc′ Pending.Quiet ram′ tags′
-  unfolding commit operandsOf
-  set-general rd v v′ pcc′ qv qp does = record { leads = λ cause k s. then-goes cause k s _ (does cause) ∙ rw (qv, qp, same-first caps) }
+  also-sets r rd v v′ pcc′ t q qv qp = set-general _ _ _ _ _ _ _ _ _ _ _ _ _ _ _ _ so-far rd v v′ pcc′ qv qp (λ cause. rw q at (t .adds cause))
 
-  pub sets : (r : Plain) (rd v v′ : ℕ) (pcc′ : Cap) → Tells flash g caps pcc pending ram tags ram′ tags′ r → r ≡ Plain.Sets rd v → v′ ≡ kept (rd % 32) v → pcc′ ≡ nextPcc pcc pending
-      → Glides flash g₀ caps₀ pcc₀ pending₀ ram₀ tags₀ (n + 1) (set g (rd % 32) v′) caps pcc′ Pending.Quiet ram′ tags′
-  sets r rd v v′ pcc′ t q qv qp = set-general rd v v′ pcc′ qv qp (λ cause. rw q at (t .tells cause))
-
-  pub also-sets : (r : Capable) (rd v v′ : ℕ) (pcc′ : Cap) → Adds flash g caps pcc pending ram tags ram′ tags′ r → r ≡ Capable.Sets rd v → v′ ≡ kept (rd % 32) v → pcc′ ≡ nextPcc pcc pending
-      → Glides flash g₀ caps₀ pcc₀ pending₀ ram₀ tags₀ (n + 1) (set g (rd % 32) v′) caps pcc′ Pending.Quiet ram′ tags′
-  also-sets r rd v v′ pcc′ t q qv qp = set-general rd v v′ pcc′ qv qp (λ cause. rw q at (t .adds cause))
-
-  pub puts : (r : Capable) (cd : ℕ) (c pcc′ : Cap) → Adds flash g caps pcc pending ram tags ram′ tags′ r → r ≡ Capable.Puts cd c → pcc′ ≡ nextPcc pcc pending
+  puts : (r : Capable) (cd : ℕ) (c pcc′ : Cap) → Adds flash g caps pcc pending ram tags ram′ tags′ r → r ≡ Capable.Puts cd c → pcc′ ≡ nextPcc pcc pending
       → Glides flash g₀ caps₀ pcc₀ pending₀ ram₀ tags₀ (n + 1) (set g 0 0) (set caps (cd % 32) c) pcc′ Pending.Quiet ram′ tags′
   unfolding commit operandsOf
-  puts r cd c pcc′ t q qp = record { leads = λ cause k s. then-goes cause k s _ (rw q at (t .adds cause)) ∙ rw qp }
-
-  pub jumps : (r : Plain) (words : ℕ) (pcc′ : Cap) (jump : Pending) → Tells flash g caps pcc pending ram tags ram′ tags′ r → r ≡ Plain.Jumps words → pcc′ ≡ nextPcc pcc pending → Pending.Jump (branchTo pcc words) ≡ jump
-      → Glides flash g₀ caps₀ pcc₀ pending₀ ram₀ tags₀ (n + 1) (set g 0 0) caps pcc′ jump ram′ tags′
-  unfolding commit operandsOf
-  jumps r words pcc′ jump t q qp qj = record { leads = λ cause k s. then-goes cause k s _ (rw q at (t .tells cause)) ∙ rw (qp, ← qj, same-first caps) }
+  puts r cd c pcc′ t q qp = record { leads = λ cause k s. then-goes _ _ _ _ _ _ _ _ _ _ _ _ _ _ _ _ so-far cause k s _ (rw q at (t .adds cause)) ∙ rw qp }
 
   -- a step that is none of these was not begun
-  pub rests : (r : Capable) → Adds flash g caps pcc pending ram tags ram′ tags′ r → r ≡ Capable.Other → Glides flash g₀ caps₀ pcc₀ pending₀ ram₀ tags₀ n g caps pcc pending ram′ tags′
+  rests : (r : Capable) → Adds flash g caps pcc pending ram tags ram′ tags′ r → r ≡ Capable.Other → Glides flash g₀ caps₀ pcc₀ pending₀ ram₀ tags₀ n g caps pcc pending ram′ tags′
   rests r t q = let m = rw q at (t .adds 0) in rw (m .0, m .1) so-far
 
--- nor was it by its first half
-pub still : (flash g : List ℕ) (caps : List Cap) (pcc : Cap) (pending : Pending) (ram tags ram′ tags′ : List ℕ) (r : Plain) → Tells flash g caps pcc pending ram tags ram′ tags′ r → r ≡ Plain.Other → Untouched ram tags ram′ tags′
-still flash g caps pcc pending ram tags ram′ tags′ r t q = rw q at (t .tells 0)
+-- where a run stands after such a step, or without it
+abbrev pub Came : List ℕ → List ℕ → List Cap → Cap → Pending → List ℕ → List ℕ → ℕ → List ℕ → List Cap → Cap → Way → List ℕ → List ℕ → Capable → Type 0
+Came flash g₀ caps₀ pcc₀ pending₀ ram₀ tags₀ n g caps pcc way ram tags Capable.Other = Glides flash g₀ caps₀ pcc₀ pending₀ ram₀ tags₀ n g caps (setOffset pcc (way .at)) (waitingAt (way .slot) pcc (way .target)) ram tags
+Came flash g₀ caps₀ pcc₀ pending₀ ram₀ tags₀ n g caps pcc way ram tags (Capable.Sets rd v) = Glides flash g₀ caps₀ pcc₀ pending₀ ram₀ tags₀ (n + 1) (set g (rd % 32) (kept (rd % 32) v)) caps (setOffset pcc (onFrom way .at)) Pending.Quiet ram tags
+Came flash g₀ caps₀ pcc₀ pending₀ ram₀ tags₀ n g caps pcc way ram tags (Capable.Puts cd c) = Glides flash g₀ caps₀ pcc₀ pending₀ ram₀ tags₀ (n + 1) (set g 0 0) (set caps (cd % 32) c) (setOffset pcc (onFrom way .at)) Pending.Quiet ram tags
 
--- no step
-pub starts : (flash g : List ℕ) (caps : List Cap) (pcc : Cap) (pending : Pending) (ram tags : List ℕ) → Glides flash g caps pcc pending ram tags 0 g caps pcc pending ram tags
-starts flash g caps pcc pending ram tags = record {
-  leads = λ cause k s. let e : s + 0 ≡ s = omega arith in let e0 : 0 + k ≡ k = omega arith in rw (e, e0);
+module _ (flash g₀ : List ℕ) (caps₀ : List Cap) (pcc₀ : Cap) (pending₀ : Pending) (ram₀ tags₀ : List ℕ) (n : ℕ) (g : List ℕ) (caps : List Cap) (pcc : Cap) (way : Way) (ram tags ram′ tags′ : List ℕ)
+    (so-far : Came flash g₀ caps₀ pcc₀ pending₀ ram₀ tags₀ n g caps pcc way ram tags Capable.Other) (here : Cap) (w i i25 i20 i15 : ℕ)
+    (sees : Sees flash pcc way ram w i) (fh : here ≡ setOffset pcc (way .at)) (f25 : i25 ≡ field25 w) (f20 : i20 ≡ field20 w) (f15 : i15 ≡ field15 w) where
+  added : (r : Capable) → CapablyBy i w here (getD caps i25 null) (getD caps i20 null) (getD caps i15 null) flash g ram tags ram′ tags′ r
+      → Adds flash g caps (setOffset pcc (way .at)) (waitingAt (way .slot) pcc (way .target)) ram tags ram′ tags′ r
+  added r did = record {
+    adds = λ cause.
+        (rw (sees .is-ahead, slot-is (way .slot) pcc (way .target), f25, f20, f15, sees .is-word, fh) at did) (here-operands flash ram g caps (setOffset pcc (way .at)) (waitingAt (way .slot) pcc (way .target)) cause)
+        (shows g caps (setOffset pcc (way .at)) (waitingAt (way .slot) pcc (way .target)) (wordOf (fetchOf flash ram (setOffset pcc (way .at)))) cause);
+  }
+
+  next : setOffset pcc (onFrom way .at) ≡ nextPcc (setOffset pcc (way .at)) (waitingAt (way .slot) pcc (way .target))
+  next = next-is (way .slot) pcc (way .at) (way .target) _ refl
+
+  pub came : (r : Capable) → CapablyBy i w here (getD caps i25 null) (getD caps i20 null) (getD caps i15 null) flash g ram tags ram′ tags′ r → Came flash g₀ caps₀ pcc₀ pending₀ ram₀ tags₀ n g caps pcc way ram′ tags′ r
+  came Capable.Other did = rests _ _ _ _ _ _ _ _ _ _ _ _ _ _ _ _ so-far Capable.Other (added Capable.Other did) refl
+  came (Capable.Sets rd v) did = also-sets _ _ _ _ _ _ _ _ _ _ _ _ _ _ _ _ so-far _ rd v _ _ (added _ did) refl refl next
+  came (Capable.Puts cd c) did = puts _ _ _ _ _ _ _ _ _ _ _ _ _ _ _ _ so-far _ cd c _ (added _ did) refl next
+
+-- the steps of one after those of another
+pub joins : (flash g : List ℕ) (caps : List Cap) (pcc : Cap) (pending : Pending) (ram tags : List ℕ) (n : ℕ) (g₁ : List ℕ) (caps₁ : List Cap) (pcc₁ : Cap) (pending₁ : Pending) (ram₁ tags₁ : List ℕ) (m : ℕ) (g₂ : List ℕ) (caps₂ : List Cap) (pcc₂ : Cap) (pending₂ : Pending) (ram₂ tags₂ : List ℕ)
+    → Glides flash g caps pcc pending ram tags n g₁ caps₁ pcc₁ pending₁ ram₁ tags₁ → Glides flash g₁ caps₁ pcc₁ pending₁ ram₁ tags₁ m g₂ caps₂ pcc₂ pending₂ ram₂ tags₂ → Glides flash g caps pcc pending ram tags (n + m) g₂ caps₂ pcc₂ pending₂ ram₂ tags₂
+joins flash g caps pcc pending ram tags n g₁ caps₁ pcc₁ pending₁ ram₁ tags₁ m g₂ caps₂ pcc₂ pending₂ ram₂ tags₂ first second = record {
+  leads = λ cause k s.
+      let e : n + m + k ≡ n + (m + k) = omega arith in
+      let q : s + (n + m) ≡ s + n + m = omega arith in
+      rw (e, q) (first .leads cause (m + k) s ∙ second .leads cause k (s + n));
 }
-
--- PCC and the pending jump as an offset, a flag and a target
-pub slot-is : (slot : Bool) (pcc : Cap) (target : Offset) → slot ≡ isPending (waitingAt slot pcc target)
-slot-is true pcc target = refl
-slot-is false pcc target = refl
-
-pub next-is : (slot : Bool) (pcc : Cap) (at target at′ : Offset) → at′ ≡ nextAt slot at target → setOffset pcc at′ ≡ nextPcc (setOffset pcc at) (waitingAt slot pcc target)
-unfolding incOffset
-next-is true pcc at target at′ q = ap (λ (o : Offset). setOffset pcc o) q
-next-is false pcc at target at′ q = ap (λ (o : Offset). setOffset pcc o) q
-
-pub branch-is : (pcc : Cap) (at to : Offset) (words : ℕ) → to ≡ branchOffset at words → Pending.Jump (branchTo (setOffset pcc at) words) ≡ waitingAt true pcc to
-unfolding branchTo
-branch-is pcc at to words q = ap (λ (o : Offset). Pending.Jump (setOffset pcc o)) (sym q)
 
 -- the steps that were glided, within a run
 pub along : (b n steps : ℕ) (flash g : List ℕ) (caps : List Cap) (pcc : Cap) (pending : Pending) (cause : ℕ) (ram tags g′ : List ℕ) (caps′ : List Cap) (pcc′ : Cap) (pending′ : Pending) (ram′ tags′ : List ℕ)

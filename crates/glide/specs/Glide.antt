@@ -1,32 +1,14 @@
--- Steps made one after the other by a shorter way, held to the run's own definition.
-use Prim.Native.Nat.{ℕ, _+_}
-use mathlib.Core.Path.{_≡_}
-use mathlib.Core.Bool.{Bool, true, cond, _&&_, _||_}
+-- A step that looks at capability registers, on the values of those that its word names.
+use Prim.Native.Nat.{ℕ}
 use mathlib.Core.List.{List}
-use lib.Dec.{eqb, leb}
-use Rattle.num.specs.declared.Offset.{Offset}
-use Rattle.num.specs.Number.{movedBy}
+use lib.ListN.{getD}
 use Rattle.cap.specs.declared.Cap.{Cap}
-use Rattle.narrow.specs.Narrow.{setOffset}
-use Rattle.isa.specs.Word.{major, field25}
-use Rattle.core.specs.declared.Pending.{Pending}
-use Rattle.core.specs.declared.Machine.{Machine}
-use Rattle.state.specs.Steps.{runFrom}
+use Rattle.isa.specs.Word.{field25, field20, field15, field10}
+use Rattle.isa.specs.Decode.{decodeWord}
+use Rattle.deriving.specs.declared.Capable.{Capable}
+use Rattle.capable.specs.Capable.{Capably}
 
-abbrev pub nextAt : Bool → Offset → Offset → Offset
-nextAt slot at target = cond slot target (movedBy at 4)
-
-abbrev pub waitingAt : Bool → Cap → Offset → Pending
-waitingAt slot pcc target = cond slot (Pending.Jump (setOffset pcc target)) Pending.Quiet
-
--- all but the capability instructions other than field reads and those that derive a capability from one alone
-unfoldable pub lightWord : ℕ → Bool
-lightWord w = cond (eqb (major w) 18) (leb (field25 w) 6 || (leb 10 (field25 w) && leb (field25 w) 15)) true
-
-abbrev pub holding : List ℕ → List Cap → Cap → Pending → ℕ → Machine
-holding g caps pcc pending cause = record { general = g; caps = caps; pcc = pcc; pending = pending; cause = cause }
-
--- so many steps lead from one to the other, whatever the cause, and the steps before and after
-pub record Glides (flash g : List ℕ) (caps : List Cap) (pcc : Cap) (pending : Pending) (ram tags : List ℕ) (steps : ℕ) (g′ : List ℕ) (caps′ : List Cap) (pcc′ : Cap) (pending′ : Pending) (ram′ tags′ : List ℕ) : Type 0 where
-  pub leads : (cause k n : ℕ)
-      → runFrom (steps + k) n flash (holding g caps pcc pending cause) ram tags ≡ runFrom k (n + steps) flash (holding g′ caps′ pcc′ pending′ cause) ram′ tags′
+-- the instruction of word i, on the registers that word w names
+abbrev pub CapablyBy : ℕ → ℕ → Cap → Cap → Cap → Cap → List ℕ → List ℕ → List ℕ → List ℕ → List ℕ → List ℕ → Capable → Type 0
+CapablyBy i w here k25 k20 k15 flash g ram tags ram′ tags′ r =
+    Capably (decodeWord i) (field25 w) (field20 w) (getD g (field25 w) 0) (getD g (field15 w) 0) (getD g (field10 w) 0) here k25 (record { cap = k20; number = field20 w }) (record { cap = k15; number = field15 w }) flash ram tags ram′ tags′ r

@@ -24,7 +24,7 @@ pub fn go(m: Machine, flash: &[u8], ram: &mut [u8], tags: &mut [u8], budget: u32
     while n < budget {
         let fetched = fetch::fetch(flash, ram, pcc);
         let w = fetch::word_of(fetched);
-        if checks::both(fresh, glide::is_light(w)) {
+        if checks::both(fresh, way::is_light(w)) {
             let glided = glide::glide(&mut g, cs, pcc, pending, flash, ram, tags, budget - n);
             n = n + glided.steps;
             cs = glided.caps;

@@ -1,12 +1,12 @@
 use Rattle.num.proofs.Calls.{asks}
 use native.Mathlib.Omega.{arith}
 use borrow.Author.Needs.{needs}
-use Rattle.glide.proofs.Glides.{starts}
+use Rattle.slide.proofs.Slides.{starts}
 use Rattle.glide.proofs.glide.Statement.{statement}
 use Rattle.glide.proofs.glide.Tie as tie
 
 returns : tie.Need-returns
-returns c = let s = c .before .before .before .before in rw (s .before .before .before .before .enum-told .given .1) (s .slide .ensures .0, s .slide .ensures .1)
+returns c = let s = c .before .before .before .before in rw (s .before .before .before .before .enum-told .given .1) (s .from-quiet .ensures .0, s .from-quiet .ensures .1)
 
 returns-2 : tie.Need-returns-2
 returns-2 c = (omega arith, starts _ _ _ _ _ _ _)

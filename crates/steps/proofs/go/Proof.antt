@@ -8,7 +8,7 @@ use denote.Ref.{now}
 use Rattle.store.specs.Store.{bit}
 use Rattle.num.proofs.Calls.{asks}
 use Rattle.state.specs.Steps.{Result, turnAt, ramAt, tagsAt, runFrom}
-use Rattle.glide.specs.Glide.{holding}
+use Rattle.slide.specs.Slide.{holding}
 use Rattle.state.proofs.Runs.{turn-is, ram-is, tags-is, on, off, done, first}
 use Rattle.glide.proofs.Glides.{along}
 use Rattle.steps.proofs.go.Statement.{statement}

@@ -1,8 +1,8 @@
 use Rattle.num.proofs.Calls.{asks}
 use borrow.Author.Tests.{eq-eqb, ne-eqb}
-use Rattle.glide.specs.Glide.{lightWord}
-use Rattle.glide.proofs.is_light.Statement.{statement}
-use Rattle.glide.proofs.is_light.Tie as tie
+use Rattle.way.specs.Way.{lightWord}
+use Rattle.way.proofs.is_light.Statement.{statement}
+use Rattle.way.proofs.is_light.Tie as tie
 
 returns : tie.Need-returns
 unfolding lightWord

@@ -1,6 +1,6 @@
 use Rattle.num.proofs.Calls.{asks}
-use Rattle.glide.proofs.come_to.Statement.{statement}
-use Rattle.glide.proofs.come_to.Tie as tie
+use Rattle.way.proofs.come_to.Statement.{statement}
+use Rattle.way.proofs.come_to.Tie as tie
 
 returns : tie.Need-returns
 returns c = rw (← c .before .waiting .ensures, ← c .set-offset .ensures)

@@ -1,7 +1,7 @@
 use Rattle.num.proofs.Calls.{asks}
 use borrow.Author.Needs.{needs}
-use Rattle.glide.proofs.waiting.Statement.{statement}
-use Rattle.glide.proofs.waiting.Tie as tie
+use Rattle.way.proofs.waiting.Statement.{statement}
+use Rattle.way.proofs.waiting.Tie as tie
 
 returns : tie.Need-returns
 returns c = rw (c .before .if1 .taken, ← c .set-offset .ensures)
