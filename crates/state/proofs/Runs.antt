@@ -1,7 +1,6 @@
 -- The laws of a run: a turn that goes on, a turn that stops, and no turn left. Assumes nothing.
 use Prim.Native.Nat.{ℕ, suc, _+_, _-_, _%_, _<_, _≤_}
 use mathlib.Core.Path.{_≡_, sym, _∙_}
-use mathlib.Core.Bool.{Bool}
 use mathlib.Core.List.{List}
 use native.Mathlib.Omega.{arith}
 use lib.ListN.{getD, set}
@@ -19,29 +18,30 @@ use Rattle.core.specs.Registers.{isPending}
 use Rattle.perform.proofs.Keeps.{stop-keeps}
 use Rattle.core.specs.declared.Machine.{Machine}
 use Rattle.state.specs.declared.Outcome.{Outcome}
-use Rattle.state.specs.State.{gathered, operandsOf, kept, nextPcc, commit, stoppedAt, endedWith}
+use Rattle.state.specs.State.{operandsBy, operandsOf, kept, nextPcc, commit, stoppedAt, endedWith}
 use Rattle.state.specs.Steps.{Result, fetchedBy, turnAt, ramAt, tagsAt, runFrom}
 
 -- what the code hands over is what the word names
-module _ (flash ram tags : List ℕ) (m : Machine) (fetched : Fetched) (w i25 i20 i15 i10 : ℕ) (o : Operands) (slot : Bool)
-    (f : fetched ≡ fetchOf flash ram (m .pcc)) (fw : w ≡ wordOf fetched) (f25 : i25 ≡ field25 w) (f20 : i20 ≡ field20 w) (f15 : i15 ≡ field15 w) (f10 : i10 ≡ field10 w)
-    (fo : o ≡ gathered w (getD (m .general) i25 0) (getD (m .general) i20 0) (getD (m .general) i15 0) (getD (m .general) i10 0) (getD (m .caps) i25 null) (getD (m .caps) i20 null) (getD (m .caps) i15 null) (getD (m .caps) i10 null) (getD (m .caps) 0 null) (m .pcc) (m .cause))
-    (fs : slot ≡ isPending (m .pending)) where
-  operands : o ≡ operandsOf m (wordOf (fetchedBy flash m ram))
+module _ (flash ram tags : List ℕ) (m : Machine) (fetched : Fetched) (w i25 i20 i15 i10 : ℕ)
+    (f : fetched ≡ fetchOf flash ram (m .pcc)) (fw : w ≡ wordOf fetched) (f25 : i25 ≡ field25 w) (f20 : i20 ≡ field20 w) (f15 : i15 ≡ field15 w) (f10 : i10 ≡ field10 w) where
+  abbrev handed : Operands
+  handed = operandsBy w (m .general) (getD (m .caps) i25 null) (getD (m .caps) i20 null) (getD (m .caps) i15 null) (getD (m .caps) i10 null) (getD (m .caps) 0 null) (m .pcc) (m .cause)
+
+  operands : handed ≡ operandsOf m (wordOf (fetchedBy flash m ram))
   unfolding operandsOf
-  operands = rw (fo, f25, f20, f15, f10, fw, f)
+  operands = rw (f25, f20, f15, f10, fw, f)
 
-  pub turn-is : (t : Turn) → t ≡ actTurn o slot fetched flash ram tags → t ≡ turnAt flash m ram tags
+  pub turn-is : (t : Turn) → t ≡ actTurn handed (isPending (m .pending)) fetched flash ram tags → t ≡ turnAt flash m ram tags
   unfolding turnAt
-  turn-is t e = rw (e, operands, fs, f)
+  turn-is t e = rw (e, operands, f)
 
-  pub ram-is : (l : List ℕ) → l ≡ actRam o slot fetched flash ram → l ≡ ramAt flash m ram
+  pub ram-is : (l : List ℕ) → l ≡ actRam handed (isPending (m .pending)) fetched flash ram → l ≡ ramAt flash m ram
   unfolding ramAt
-  ram-is l e = rw (e, operands, fs, f)
+  ram-is l e = rw (e, operands, f)
 
-  pub tags-is : (l : List ℕ) → l ≡ actTags o slot fetched flash ram tags → l ≡ tagsAt flash m ram tags
+  pub tags-is : (l : List ℕ) → l ≡ actTags handed (isPending (m .pending)) fetched flash ram tags → l ≡ tagsAt flash m ram tags
   unfolding tagsAt
-  tags-is l e = rw (e, operands, fs, f)
+  tags-is l e = rw (e, operands, f)
 
 left : (b n : ℕ) → n < b → b - n ≡ suc (b - (n + 1))
 left b n h = omega arith

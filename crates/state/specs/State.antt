@@ -1,6 +1,7 @@
 -- The machine's registers, and what a step leaves in them (01, "What the model is" and "Stop numbers").
 use Prim.Native.Nat.{ℕ, _+_, _*_, _%_}
 use mathlib.Core.Bool.{cond}
+use mathlib.Core.List.{List}
 use lib.ListN.{getD, set}
 use lib.Dec.{eqb}
 use Rattle.cap.specs.declared.Cap.{Cap}
@@ -32,6 +33,10 @@ gathered w g25 g20 g15 g10 k25 k20 k15 k10 k0 pcc cause =
       pcc = pcc;
       cause = cause;
     }
+
+-- the general registers by the word, the capability registers as they are handed over
+abbrev pub operandsBy : ℕ → List ℕ → Cap → Cap → Cap → Cap → Cap → Cap → ℕ → Operands
+operandsBy w g k25 k20 k15 k10 k0 pcc cause = gathered w (getD g (field25 w) 0) (getD g (field20 w) 0) (getD g (field15 w) 0) (getD g (field10 w) 0) k25 k20 k15 k10 k0 pcc cause
 
 abbrev pub general : Machine → ℕ → ℕ
 general m n = getD (m .general) n 0

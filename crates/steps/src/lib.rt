@@ -33,30 +33,27 @@ pub fn go(m: Machine, flash: &[u8], ram: &mut [u8], tags: &mut [u8], budget: u32
             fresh = false;
             continue;
         }
-        let i25 = isa::field_25(w) as usize;
-        let i20 = isa::field_20(w) as usize;
-        let i15 = isa::field_15(w) as usize;
-        let i10 = isa::field_10(w) as usize;
-        let k25 = cs[i25];
-        let k20 = cs[i20];
-        let k15 = cs[i15];
-        let k10 = cs[i10];
+        let k25 = cs[isa::field_25(w) as usize];
+        let k20 = cs[isa::field_20(w) as usize];
+        let k15 = cs[isa::field_15(w) as usize];
+        let k10 = cs[isa::field_10(w) as usize];
         let k0 = cs[0];
-        let o = state::gather(
+        let turn = whole::turn(
             w,
-            g[i25],
-            g[i20],
-            g[i15],
-            g[i10],
+            &g,
             k25,
             k20,
             k15,
             k10,
             k0,
             pcc,
+            pending,
             cause,
+            fetched,
+            flash,
+            ram,
+            tags,
         );
-        let turn = perform::act(o, core::is_pending(pending), fetched, flash, ram, tags);
         match turn {
             Turn::Stops(f) => {
                 return ending::stopped(f, n, g, cs, pcc, pending, cause);

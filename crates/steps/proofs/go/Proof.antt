@@ -34,21 +34,25 @@ stepped : (b n : ℕ) (fresh : Bool) → n < b → left b (n + 1) true < left b 
 stepped b n true h = omega arith
 stepped b n false h = omega arith
 
--- what the call of `act` answers is the machine's turn
-turned : (c : tie.After-act Inv-loop μ-loop)
-    → let l = c .before .before .before .before .before .before .before .before .before .before .before .before .before .before .before .before .before .before .before .before .before .loop in
-    let flash = c .before .before .before .before .before .before .before .before .before .before .before .before .before .before .before .before .before .before .before .before .before .before .before .before .before .before .before .before .args .flash .now in
+-- what the call of `turn` answers is the machine's turn
+turned : (c : tie.After-turn Inv-loop μ-loop)
+    → let l = c .before .before .before .before .before .before .before .before .before .before .before .before .before .before .before .before .before .before .before .before .loop in
+    let flash = c .before .before .before .before .before .before .before .before .before .before .before .before .before .before .before .before .before .before .before .before .before .before .before .before .before .before .before .args .flash .now in
     let m = holding (l .g) (l .cs) (l .pcc) (l .pending) (l .cause) in
-    (c .act .result ≡ turnAt flash m (l .ram) (l .tags)) × (c .act .last .1 .1 .1 .1 .0 ≡ ramAt flash m (l .ram)) × (c .act .last .1 .1 .1 .1 .1 .0 ≡ tagsAt flash m (l .ram) (l .tags))
+    (c .turn .result ≡ turnAt flash m (l .ram) (l .tags)) × (c .turn .last .1 .1 .1 .1 .1 .1 .1 .1 .1 .1 .1 .1 .0 ≡ ramAt flash m (l .ram)) × (c .turn .last .1 .1 .1 .1 .1 .1 .1 .1 .1 .1 .1 .1 .1 .0 ≡ tagsAt flash m (l .ram) (l .tags))
 turned c =
-    let l = c .before .before .before .before .before .before .before .before .before .before .before .before .before .before .before .before .before .before .before .before .before .loop in
-    let flash = c .before .before .before .before .before .before .before .before .before .before .before .before .before .before .before .before .before .before .before .before .before .before .before .before .before .before .before .before .args .flash .now in
+    let l = c .before .before .before .before .before .before .before .before .before .before .before .before .before .before .before .before .before .before .before .before .loop in
+    let flash = c .before .before .before .before .before .before .before .before .before .before .before .before .before .before .before .before .before .before .before .before .before .before .before .before .before .before .before .args .flash .now in
     let m = holding (l .g) (l .cs) (l .pcc) (l .pending) (l .cause) in
-    let fo = c .before .before .before .before .gather .ensures in
-    let fs = c .before .before .before .is-pending .ensures in (
-      turn-is flash (l .ram) (l .tags) m _ _ _ _ _ _ _ _ (c .before .before .before .before .before .before .before .before .before .before .before .before .before .before .before .before .before .before .fetch .ensures) (c .before .before .before .before .before .before .before .before .before .before .before .before .before .before .before .before .before .word-of .ensures) (c .before .before .before .before .before .before .before .before .before .before .before .before .before .field-25 .ensures) (c .before .before .before .before .before .before .before .before .before .before .before .before .field-20 .ensures) (c .before .before .before .before .before .before .before .before .before .before .before .field-15 .ensures) (c .before .before .before .before .before .before .before .before .before .before .field-10 .ensures) fo fs _ (c .act .ensures .0),
-      ram-is flash (l .ram) (l .tags) m _ _ _ _ _ _ _ _ (c .before .before .before .before .before .before .before .before .before .before .before .before .before .before .before .before .before .before .fetch .ensures) (c .before .before .before .before .before .before .before .before .before .before .before .before .before .before .before .before .before .word-of .ensures) (c .before .before .before .before .before .before .before .before .before .before .before .before .before .field-25 .ensures) (c .before .before .before .before .before .before .before .before .before .before .before .before .field-20 .ensures) (c .before .before .before .before .before .before .before .before .before .before .before .field-15 .ensures) (c .before .before .before .before .before .before .before .before .before .before .field-10 .ensures) fo fs _ (c .act .ensures .1 .0),
-      tags-is flash (l .ram) (l .tags) m _ _ _ _ _ _ _ _ (c .before .before .before .before .before .before .before .before .before .before .before .before .before .before .before .before .before .before .fetch .ensures) (c .before .before .before .before .before .before .before .before .before .before .before .before .before .before .before .before .before .word-of .ensures) (c .before .before .before .before .before .before .before .before .before .before .before .before .before .field-25 .ensures) (c .before .before .before .before .before .before .before .before .before .before .before .before .field-20 .ensures) (c .before .before .before .before .before .before .before .before .before .before .before .field-15 .ensures) (c .before .before .before .before .before .before .before .before .before .before .field-10 .ensures) fo fs _ (c .act .ensures .1 .1),
+    let f = c .before .before .before .before .before .before .before .before .before .before .before .before .before .before .before .before .before .fetch .ensures in
+    let fw = c .before .before .before .before .before .before .before .before .before .before .before .before .before .before .before .before .word-of .ensures in
+    let f25 = c .before .before .before .before .before .before .before .before .before .before .before .before .field-25 .ensures in
+    let f20 = c .before .before .before .before .before .before .before .before .before .before .field-20 .ensures in
+    let f15 = c .before .before .before .before .before .before .before .before .field-15 .ensures in
+    let f10 = c .before .before .before .before .before .before .field-10 .ensures in (
+      turn-is flash (l .ram) (l .tags) m _ _ _ _ _ _ f fw f25 f20 f15 f10 _ (c .turn .ensures .0),
+      ram-is flash (l .ram) (l .tags) m _ _ _ _ _ _ f fw f25 f20 f15 f10 _ (c .turn .ensures .1 .0),
+      tags-is flash (l .ram) (l .tags) m _ _ _ _ _ _ f fw f25 f20 f15 f10 _ (c .turn .ensures .1 .1),
     )
 
 loop-holds : tie.Need-loop-holds Inv-loop μ-loop
@@ -73,30 +77,30 @@ loop-again c =
     )
 
 same-length : tie.Need-same-length Inv-loop μ-loop
-same-length c = omega (arith, c .before .before .before .before .before .before .before .before .act .kept .1 .1 .1 .1 .0, c .before .before .before .before .before .before .before .before .before .before .before .before .before .before .before .before .before .before .before .before .before .before .before .before .before .before .before .before .before .loop .inv .0)
+same-length c = omega (arith, c .before .before .before .before .before .before .before .before .turn .kept .1 .1 .1 .1 .1 .1 .1 .1 .1 .1 .1 .1 .0, c .before .before .before .before .before .before .before .before .before .before .before .before .before .before .before .before .before .before .before .before .before .before .before .before .before .before .before .before .loop .inv .0)
 
 same-length-2 : tie.Need-same-length-2 Inv-loop μ-loop
-same-length-2 c = omega (arith, c .before .before .before .before .before .before .before .before .act .kept .1 .1 .1 .1 .1 .0, c .before .before .before .before .before .before .before .before .before .before .before .before .before .before .before .before .before .before .before .before .before .before .before .before .before .before .before .before .before .loop .inv .1)
+same-length-2 c = omega (arith, c .before .before .before .before .before .before .before .before .turn .kept .1 .1 .1 .1 .1 .1 .1 .1 .1 .1 .1 .1 .1 .0, c .before .before .before .before .before .before .before .before .before .before .before .before .before .before .before .before .before .before .before .before .before .before .before .before .before .before .before .before .loop .inv .1)
 
 returns : tie.Need-returns Inv-loop μ-loop
 returns c =
     let t = turned (c .before .before .before .before .before .before .before .before) in
-    let e = off _ _ _ _ _ _ (c .before .before .before .before .before .before .before .before .before .before .before .before .before .before .before .before .before .before .before .before .before .before .before .before .before .before .before .before .loop-test .taken) _ _ _ _ (sym (c .before .before .turn .given .1) ∙ t .0) (t .1) (t .2) (c .stopped .ensures) ∙ c .before .before .before .before .before .before .before .before .before .before .before .before .before .before .before .before .before .before .before .before .before .before .before .before .before .before .before .before .before .loop .inv .3 in
+    let e = off _ _ _ _ _ _ (c .before .before .before .before .before .before .before .before .before .before .before .before .before .before .before .before .before .before .before .before .before .before .before .before .before .before .before .loop-test .taken) _ _ _ _ (sym (c .before .before .turn2 .given .1) ∙ t .0) (t .1) (t .2) (c .stopped .ensures) ∙ c .before .before .before .before .before .before .before .before .before .before .before .before .before .before .before .before .before .before .before .before .before .before .before .before .before .before .before .before .loop .inv .3 in
     (ap (λ (r : Result). r .outcome) e, (ap (λ (r : Result). r .ram) e, ap (λ (r : Result). r .tags) e))
 
 add-n-2 : tie.Need-add-n-2 Inv-loop μ-loop
-add-n-2 c = omega (arith, c .before .before .before .before .before .before .before .before .before .before .before .before .before .before .before .before .before .before .before .before .before .before .before .before .before .before .before .before .before .before .before .before .loop-test .taken, c .before .before .before .before .before .before .before .before .before .before .before .before .before .before .before .before .before .before .before .before .before .before .before .before .before .before .before .before .before .before .before .before .before .before .before .before .before .before .before .before .fits .budget)
+add-n-2 c = omega (arith, c .before .before .before .before .before .before .before .before .before .before .before .before .before .before .before .before .before .before .before .before .before .before .before .before .before .before .before .before .before .before .before .loop-test .taken, c .before .before .before .before .before .before .before .before .before .before .before .before .before .before .before .before .before .before .before .before .before .before .before .before .before .before .before .before .before .before .before .before .before .before .before .before .before .before .before .fits .budget)
 
 loop-less-2 : tie.Need-loop-less-2 Inv-loop μ-loop
-loop-less-2 c = stepped _ _ (c .before .before .before .before .before .before .before .before .before .before .before .before .before .before .before .before .before .before .before .before .before .before .before .before .before .before .before .before .before .before .before .before .before .loop .fresh) (c .before .before .before .before .before .before .before .before .before .before .before .before .before .before .before .before .before .before .before .before .before .before .before .before .before .before .before .before .before .before .before .before .loop-test .taken)
+loop-less-2 c = stepped _ _ (c .before .before .before .before .before .before .before .before .before .before .before .before .before .before .before .before .before .before .before .before .before .before .before .before .before .before .before .before .before .before .before .before .loop .fresh) (c .before .before .before .before .before .before .before .before .before .before .before .before .before .before .before .before .before .before .before .before .before .before .before .before .before .before .before .before .before .before .before .loop-test .taken)
 
 loop-again-2 : tie.Need-loop-again-2 Inv-loop μ-loop
 loop-again-2 c =
     let t = turned (c .before .before .before .before .before .before .before .before .before .before .before .before) in (
-      omega (arith, c .before .before .before .before .before .before .before .before .before .before .before .before .act .kept .1 .1 .1 .1 .0, c .before .before .before .before .before .before .before .before .before .before .before .before .before .before .before .before .before .before .before .before .before .before .before .before .before .before .before .before .before .before .before .before .before .loop .inv .0),
-      omega (arith, c .before .before .before .before .before .before .before .before .before .before .before .before .act .kept .1 .1 .1 .1 .1 .0, c .before .before .before .before .before .before .before .before .before .before .before .before .before .before .before .before .before .before .before .before .before .before .before .before .before .before .before .before .before .before .before .before .before .loop .inv .1),
-      omega (arith, c .before .before .before .before .before .before .before .before .before .before .before .before .before .before .before .before .before .before .before .before .before .before .before .before .before .before .before .before .before .before .before .before .loop-test .taken),
-      on _ _ _ _ _ _ (c .before .before .before .before .before .before .before .before .before .before .before .before .before .before .before .before .before .before .before .before .before .before .before .before .before .before .before .before .before .before .before .before .loop-test .taken) _ _ _ _ _ (sym (c .before .before .before .before .before .before .turn2 .given .1) ∙ t .0) (t .1) (t .2) (c .before .before .before .kept-zero .ensures) (c .next-pcc .ensures) ∙ c .before .before .before .before .before .before .before .before .before .before .before .before .before .before .before .before .before .before .before .before .before .before .before .before .before .before .before .before .before .before .before .before .before .loop .inv .3,
+      omega (arith, c .before .before .before .before .before .before .before .before .before .before .before .before .turn .kept .1 .1 .1 .1 .1 .1 .1 .1 .1 .1 .1 .1 .0, c .before .before .before .before .before .before .before .before .before .before .before .before .before .before .before .before .before .before .before .before .before .before .before .before .before .before .before .before .before .before .before .before .loop .inv .0),
+      omega (arith, c .before .before .before .before .before .before .before .before .before .before .before .before .turn .kept .1 .1 .1 .1 .1 .1 .1 .1 .1 .1 .1 .1 .1 .0, c .before .before .before .before .before .before .before .before .before .before .before .before .before .before .before .before .before .before .before .before .before .before .before .before .before .before .before .before .before .before .before .before .loop .inv .1),
+      omega (arith, c .before .before .before .before .before .before .before .before .before .before .before .before .before .before .before .before .before .before .before .before .before .before .before .before .before .before .before .before .before .before .before .loop-test .taken),
+      on _ _ _ _ _ _ (c .before .before .before .before .before .before .before .before .before .before .before .before .before .before .before .before .before .before .before .before .before .before .before .before .before .before .before .before .before .before .before .loop-test .taken) _ _ _ _ _ (sym (c .before .before .before .before .before .before .turn3 .given .1) ∙ t .0) (t .1) (t .2) (c .before .before .before .kept-zero .ensures) (c .next-pcc .ensures) ∙ c .before .before .before .before .before .before .before .before .before .before .before .before .before .before .before .before .before .before .before .before .before .before .before .before .before .before .before .before .before .before .before .before .loop .inv .3,
     )
 
 same-length-3 : tie.Need-same-length-3 Inv-loop μ-loop
@@ -128,31 +132,21 @@ go-spec =
     loop-again
     asks
     (λ c. search needs)
-    asks
     (λ c. search needs)
-    asks
     (λ c. search needs)
     asks
-    (λ c. search needs)
-    (λ c. search needs)
-    (λ c. search needs)
-    (λ c. search needs)
-    (λ c. search needs)
-    (λ c. search needs)
-    (λ c. search needs)
-    (λ c. search needs)
-    (λ c. search needs)
-    (λ c. search needs)
-    (λ c. search needs)
-    (λ c. search needs)
-    (λ c. search needs)
-    (λ c. search needs)
-    (λ c. search needs)
     (λ c. search needs)
     (λ c. search needs)
     (λ c. search needs)
     asks
+    (λ c. search needs)
+    (λ c. search needs)
+    (λ c. search needs)
     asks
+    (λ c. search needs)
+    (λ c. search needs)
+    (λ c. search needs)
+    (λ c. search needs)
     asks
     (λ c. search needs)
     asks
