@@ -7,7 +7,7 @@ use borrow.Author.Tests.{lt-ltb, le-ltb, le-leb, lt-leb, leb-true, leb-false}
 use lib.Dec.{leb}
 use Rattle.num.specs.Number.{movedBy}
 use Rattle.num.specs.declared.Offset.{Offset}
-use Rattle.branch.specs.Branch.{bytesOff, branchOffset, notPast}
+use Rattle.manual.specs.Branch.{bytesOff, branchOffset, notPast}
 
 -- from the slot, and then by the count
 pub from-slot : (pc a r : Offset) (words b : ℕ) → a ≡ movedBy pc 4 → b ≡ bytesOff words → r ≡ movedBy a b → r ≡ branchOffset pc words

@@ -11,7 +11,7 @@ ghost use mathlib.Core.Path.{_≡_};
 ghost use Prim.Native.Nat.{_+_};
 ghost use lib.Dec.{leb};
 ghost use Rattle.checks.specs.Checks.{settle};
-ghost use Rattle.branch.specs.Branch.{wanted, bytesOff, branchOffset, branchTo, notPast, branch, branchTag};
+ghost use Rattle.manual.specs.Branch.{wanted, bytesOff, branchOffset, branchTo, notPast, branch, branchTag};
 
 // Whether the branch is taken: its test came out as it wants.
 pub fn is_wanted(want: bool, test: bool) -> bool

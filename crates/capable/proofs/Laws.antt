@@ -3,8 +3,8 @@ use Prim.Native.Nat.{ℕ}
 use mathlib.Core.Path.{refl}
 use mathlib.Core.List.{List}
 use Rattle.checks.specs.declared.Planned.{Planned}
-use Rattle.plan.specs.declared.Operands.{Operands}
-use Rattle.perform.specs.Perform.{turnOf, ramOf, tagsOf}
+use Rattle.manual.specs.declared.Operands.{Operands}
+use Rattle.manual.specs.Perform.{turnOf, ramOf, tagsOf}
 use Rattle.deriving.specs.declared.Capable.{Capable}
 use Rattle.deriving.specs.Deriving.{Leads}
 use Rattle.special.specs.Special.{Amounts}

@@ -6,8 +6,8 @@ use Rattle.cap.specs.declared.Cap.{Cap}
 use Rattle.isa.specs.declared.Instr.{Instr}
 use Rattle.checks.specs.declared.Named.{Named}
 use Rattle.checks.specs.Checks.{settle}
-use Rattle.plan.specs.declared.Operands.{Operands}
-use Rattle.plan.specs.Plan.{planOf}
+use Rattle.manual.specs.declared.Operands.{Operands}
+use Rattle.manual.specs.Plan.{planOf}
 use Rattle.deriving.specs.declared.Capable.{Capable}
 use Rattle.special.specs.Special.{Amounts}
 

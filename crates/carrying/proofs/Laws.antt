@@ -17,9 +17,9 @@ use Rattle.checks.specs.declared.Fault.{Fault}
 use Rattle.checks.specs.declared.Effect.{Effect}
 use Rattle.checks.specs.declared.Planned.{Planned}
 use Rattle.checks.specs.Checks.{Checked, guard, settle}
-use Rattle.transfer.specs.Transfer.{cLC, cSC, mayStore}
-use Rattle.plan.specs.declared.Operands.{Operands}
-use Rattle.perform.specs.Perform.{turnOf, ramOf, tagsOf}
+use Rattle.manual.specs.Transfer.{cLC, cSC, mayStore}
+use Rattle.manual.specs.declared.Operands.{Operands}
+use Rattle.manual.specs.Perform.{turnOf, ramOf, tagsOf}
 use Rattle.mem.specs.Place.{placeIn}
 use Rattle.data.specs.Data.{Reaches}
 use Rattle.checks.proofs.Tests.{both-true}

@@ -7,7 +7,7 @@ use checks::Planned;
 use isa::Compare;
 ghost use mathlib.Core.Path.{_≡_};
 ghost use Rattle.checks.specs.Checks.{settle};
-ghost use Rattle.compare.specs.Compare.{sameBool, isEqual, isLess, isLessSigned, compares, cPtrCmp};
+ghost use Rattle.manual.specs.Compare.{sameBool, isEqual, isLess, isLessSigned, compares, cPtrCmp};
 
 fn same(a: bool, b: bool) -> bool
     ensures { λ r. ⌜ r ≡ sameBool a b ⌝ }

@@ -18,7 +18,7 @@ use Rattle.checks.specs.declared.Fault.{Fault}
 use Rattle.checks.specs.declared.Effect.{Effect}
 use Rattle.checks.specs.declared.Planned.{Planned}
 use Rattle.checks.specs.Checks.{settle, opened, tagged, unsealed, granted}
-use Rattle.transfer.specs.Transfer.{lies}
+use Rattle.manual.specs.Transfer.{lies}
 use Rattle.checks.proofs.Tests.{both-true}
 use Rattle.data.specs.Data.{Lands, Reaches, Reached}
 

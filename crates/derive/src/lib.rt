@@ -10,7 +10,7 @@ use checks::TAG;
 use num::Offset;
 ghost use mathlib.Core.Path.{_≡_};
 ghost use Rattle.checks.specs.Checks.{settle};
-ghost use Rattle.derive.specs.Derive.{cGetPCC, cAndPerm, cClearTag, cIncBase, cSetLen, cSetOffset, cIncOffset, cFromPtr};
+ghost use Rattle.manual.specs.Derive.{cGetPCC, cAndPerm, cClearTag, cIncBase, cSetLen, cSetOffset, cIncOffset, cFromPtr};
 
 pub fn get_pcc(pcc: Cap, cd: u8) -> Planned
     ensures { λ r. ⌜ r ≡ settle (cGetPCC pcc cd) ⌝ }

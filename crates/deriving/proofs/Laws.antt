@@ -14,9 +14,9 @@ use Rattle.checks.specs.declared.Named.{Named}
 use Rattle.checks.specs.declared.Effect.{Effect}
 use Rattle.checks.specs.declared.Planned.{Planned}
 use Rattle.checks.specs.Checks.{settle}
-use Rattle.derive.specs.Derive.{cAndPerm, cClearTag, cIncBase, cSetLen, cSetOffset, cIncOffset}
-use Rattle.plan.specs.declared.Operands.{Operands}
-use Rattle.plan.specs.Plan.{planOf}
+use Rattle.manual.specs.Derive.{cAndPerm, cClearTag, cIncBase, cSetLen, cSetOffset, cIncOffset}
+use Rattle.manual.specs.declared.Operands.{Operands}
+use Rattle.manual.specs.Plan.{planOf}
 use Rattle.checks.proofs.Tests.{both-true}
 use Rattle.deriving.specs.Deriving.{putsWhere, Leads}
 

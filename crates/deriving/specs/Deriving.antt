@@ -9,8 +9,8 @@ use Rattle.checks.specs.declared.Named.{Named}
 use Rattle.checks.specs.declared.Effect.{Effect}
 use Rattle.checks.specs.declared.Planned.{Planned}
 use Rattle.checks.specs.Checks.{settle}
-use Rattle.plan.specs.declared.Operands.{Operands}
-use Rattle.plan.specs.Plan.{planOf}
+use Rattle.manual.specs.declared.Operands.{Operands}
+use Rattle.manual.specs.Plan.{planOf}
 use Rattle.deriving.specs.declared.Capable.{Capable}
 
 abbrev pub putsWhere : Bool → ℕ → Cap → Capable

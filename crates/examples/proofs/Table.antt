@@ -15,11 +15,11 @@ use Rattle.access.specs.Access.{accessOf, placedAt, placedFrom, signed, sumOf}
 use Rattle.line.specs.Line.{capIn, decode, fromWords}
 use Rattle.isa.specs.Decode.{codedSize, decodeWord, ifZero, isJumpWord, loadWord, lookup, majors, specialWord}
 use Rattle.checks.specs.Checks.{settle}
-use Rattle.transfer.specs.Transfer.{load}
-use Rattle.branch.specs.Branch.{branch, branchTo}
-use Rattle.plan.specs.Plan.{planOf}
-use Rattle.perform.specs.Perform.{ramOf, tagsOf, turnOf}
-use Rattle.perform.specs.Act.{plannedOf}
+use Rattle.manual.specs.Transfer.{load}
+use Rattle.manual.specs.Branch.{branch, branchTo}
+use Rattle.manual.specs.Plan.{planOf}
+use Rattle.manual.specs.Perform.{ramOf, tagsOf, turnOf}
+use Rattle.manual.specs.Act.{plannedOf}
 use Rattle.fetch.specs.Fetch.{fetchOf}
 use Rattle.state.specs.State.{commit, operandsOf, stoppedAt}
 use Rattle.state.specs.Steps.{ramAt, runFrom, tagsAt, turnAt}

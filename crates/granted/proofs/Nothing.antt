@@ -9,9 +9,9 @@ use Rattle.cap.specs.declared.Cap.{Cap}
 use Rattle.narrow.specs.Narrow.{null}
 use Rattle.checks.specs.declared.Fault.{Fault}
 use Rattle.core.specs.declared.Pending.{Pending}
-use Rattle.perform.specs.declared.Turn.{Turn}
+use Rattle.manual.specs.declared.Turn.{Turn}
 use Rattle.fetch.specs.declared.Fetched.{Fetched}
-use Rattle.perform.specs.Act.{plannedOf}
+use Rattle.manual.specs.Act.{plannedOf}
 use Rattle.fetch.specs.Fetch.{fetchOf}
 use Rattle.accept.specs.Accept.{sizesFit}
 use Rattle.core.specs.declared.Machine.{Machine}

@@ -17,8 +17,8 @@ use Rattle.told.specs.declared.Verdict.{Verdict}
 use Rattle.told.specs.Told.{refusalNumber, verdictNumber, codeOf, ANSWER-NUMBERS}
 use Rattle.accept.specs.Accept.{sizesFit, tagBytesFit, topFits, capsFit, jumpFits, linesFit, widthFits, widthsFit, jumpWidth, verdictOf}
 use Rattle.core.specs.declared.Machine.{Machine}
-use Rattle.perform.specs.declared.Change.{Change}
-use Rattle.perform.specs.declared.Turn.{Turn}
+use Rattle.manual.specs.declared.Change.{Change}
+use Rattle.manual.specs.declared.Turn.{Turn}
 use Rattle.state.specs.State.{commit, stoppedAt}
 use Rattle.state.specs.Steps.{turnAt, ramAt, tagsAt, runFrom}
 use Rattle.state.specs.Run.{runOf}

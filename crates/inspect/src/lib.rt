@@ -11,7 +11,7 @@ use checks::USER;
 use isa::Field;
 ghost use mathlib.Core.Path.{_≡_};
 ghost use Rattle.checks.specs.Checks.{settle};
-ghost use Rattle.inspect.specs.Inspect.{CauseOpen, fieldOf, pointerOf, get, cGetCause, cSetCause, cToPtr, cCheckPerm, cCheckType};
+ghost use Rattle.manual.specs.Inspect.{CauseOpen, fieldOf, pointerOf, get, cGetCause, cSetCause, cToPtr, cCheckPerm, cCheckType};
 
 pub fn field_of(field: Field, c: Cap) -> u64
     ensures { λ r. ⌜ r ≡ fieldOf field c ⌝ }

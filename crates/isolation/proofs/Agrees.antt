@@ -19,10 +19,10 @@ use Rattle.access.specs.declared.Access.{Access}
 use Rattle.access.specs.Access.{accessOf}
 use Rattle.checks.specs.declared.Effect.{Effect}
 use Rattle.checks.specs.declared.Planned.{Planned}
-use Rattle.plan.specs.declared.Operands.{Operands}
+use Rattle.manual.specs.declared.Operands.{Operands}
 use Rattle.fetch.specs.declared.Fetched.{Fetched}
-use Rattle.perform.specs.Perform.{loadedTurn, storedTurn, capTurn, turnOf, ramOf, tagsOf}
-use Rattle.perform.specs.Act.{plannedOf, doneTurn, doneRam, doneTags}
+use Rattle.manual.specs.Perform.{loadedTurn, storedTurn, capTurn, turnOf, ramOf, tagsOf}
+use Rattle.manual.specs.Act.{plannedOf, doneTurn, doneRam, doneTags}
 use Rattle.fetch.specs.Fetch.{wordIn, fetchAt, must, fetchOf, wordOf}
 use Rattle.core.specs.Registers.{isPending}
 use Rattle.core.specs.declared.Machine.{Machine}

@@ -29,12 +29,12 @@ use Rattle.line.proofs.Lines.{length-encode}
 use Rattle.isa.specs.Word.{field25, field20, field15, field10}
 use Rattle.checks.specs.declared.Effect.{Effect}
 use Rattle.checks.specs.declared.Planned.{Planned}
-use Rattle.plan.specs.declared.Operands.{Operands}
+use Rattle.manual.specs.declared.Operands.{Operands}
 use Rattle.core.specs.declared.Pending.{Pending}
-use Rattle.perform.specs.declared.Change.{Change}
-use Rattle.perform.specs.declared.Turn.{Turn}
-use Rattle.perform.specs.Perform.{quiet, loadedTurn, storedTurn, capTurn, turnOf, ramOf, tagsOf}
-use Rattle.perform.specs.Act.{plannedOf, doneTurn, doneRam, doneTags}
+use Rattle.manual.specs.declared.Change.{Change}
+use Rattle.manual.specs.declared.Turn.{Turn}
+use Rattle.manual.specs.Perform.{quiet, loadedTurn, storedTurn, capTurn, turnOf, ramOf, tagsOf}
+use Rattle.manual.specs.Act.{plannedOf, doneTurn, doneRam, doneTags}
 use Rattle.fetch.specs.Fetch.{wordOf}
 use Rattle.core.specs.Registers.{isPending}
 use Rattle.core.specs.declared.Machine.{Machine}

@@ -24,17 +24,17 @@ use Rattle.checks.specs.declared.Effect.{Effect}
 use Rattle.checks.specs.declared.Planned.{Planned}
 use Rattle.checks.specs.declared.Named.{Named}
 use Rattle.checks.specs.Checks.{Checked, ok, fail, guard, fork, settle}
-use Rattle.derive.specs.Derive.{isZero, cGetPCC, cAndPerm, cClearTag, cIncBase, cSetLen, cSetOffset, cIncOffset, cFromPtr}
-use Rattle.seal.specs.Seal.{cSeal, cUnseal}
-use Rattle.inspect.specs.Inspect.{get, cGetCause, cSetCause, cToPtr, cCheckPerm, cCheckType}
-use Rattle.compare.specs.Compare.{cPtrCmp}
-use Rattle.jump.specs.Jump.{cJR, cJALR, cCall, cReturn}
-use Rattle.branch.specs.Branch.{branch, branchTag, branchTo}
-use Rattle.transfer.specs.Transfer.{lies, load, store, cLC, cSC}
-use Rattle.plan.specs.declared.Operands.{Operands}
-use Rattle.plan.specs.Plan.{planOf}
+use Rattle.manual.specs.Derive.{isZero, cGetPCC, cAndPerm, cClearTag, cIncBase, cSetLen, cSetOffset, cIncOffset, cFromPtr}
+use Rattle.manual.specs.Seal.{cSeal, cUnseal}
+use Rattle.manual.specs.Inspect.{get, cGetCause, cSetCause, cToPtr, cCheckPerm, cCheckType}
+use Rattle.manual.specs.Compare.{cPtrCmp}
+use Rattle.manual.specs.Jump.{cJR, cJALR, cCall, cReturn}
+use Rattle.manual.specs.Branch.{branch, branchTag, branchTo}
+use Rattle.manual.specs.Transfer.{lies, load, store, cLC, cSC}
+use Rattle.manual.specs.declared.Operands.{Operands}
+use Rattle.manual.specs.Plan.{planOf}
 use Rattle.fetch.specs.declared.Fetched.{Fetched}
-use Rattle.perform.specs.Act.{plannedOf}
+use Rattle.manual.specs.Act.{plannedOf}
 use Rattle.isolation.specs.Reach.{Spans}
 use Rattle.isolation.proofs.Lists.{never}
 use Rattle.isolation.proofs.Ranges.{Narrows, same-range, narrows-and, narrows-unseal, narrows-seal, narrows-offset, narrows-base}

@@ -5,8 +5,8 @@ use mathlib.Core.Bool.{true}
 use native.Mathlib.Omega.{arith}
 use Rattle.cap.specs.declared.Cap.{Cap}
 use Rattle.cap.specs.Cap.{LOAD-CAPABILITY}
-use Rattle.perform.specs.declared.Turn.{Turn}
-use Rattle.perform.specs.declared.Turn.the-variants.{Next, Stops}
+use Rattle.manual.specs.declared.Turn.{Turn}
+use Rattle.manual.specs.declared.Turn.the-variants.{Next, Stops}
 use Rattle.core.specs.declared.Machine.{Machine}
 use Rattle.state.specs.State.{commit, stoppedAt}
 use Rattle.state.specs.Steps.{Result, turnAt, runFrom}

@@ -10,11 +10,11 @@ use checks::Planned;
 use num::Size;
 ghost use mathlib.Core.Path.{_≡_};
 ghost use Rattle.checks.specs.Checks.{settle};
-ghost use Rattle.jump.specs.Jump.{cJR, cJALR, cCall, cReturn};
+ghost use Rattle.manual.specs.Jump.{cJR, cJALR, cCall, cReturn};
 
 // What CJR and CJALR ask of their target.
 fn jumpable(k: Check, cb: Named) -> Check
-    ensures { λ r. ⌜ Rattle.jump.specs.Jump.Asks k cb r ⌝ }
+    ensures { λ r. ⌜ Rattle.manual.specs.Jump.Asks k cb r ⌝ }
 {
     let k = checks::tagged(k, cb);
     let k = checks::unsealed(k, cb);

@@ -25,9 +25,9 @@ use Rattle.line.proofs.Lines.{cap-is-kept, bits-are-kept, length-encode}
 use Rattle.checks.specs.declared.Fault.{Fault}
 use Rattle.checks.specs.declared.Effect.{Effect}
 use Rattle.core.specs.declared.Pending.{Pending}
-use Rattle.perform.specs.declared.Change.{Change}
-use Rattle.perform.specs.declared.Turn.{Turn}
-use Rattle.perform.specs.Perform.{toCapability, storedTurn, capTurn, turnOf, ramOf, tagsOf}
+use Rattle.manual.specs.declared.Change.{Change}
+use Rattle.manual.specs.declared.Turn.{Turn}
+use Rattle.manual.specs.Perform.{toCapability, storedTurn, capTurn, turnOf, ramOf, tagsOf}
 use Rattle.core.specs.declared.Machine.{Machine}
 use Rattle.state.specs.State.{operandsOf}
 use Rattle.state.specs.Steps.{turnAt, ramAt, tagsAt}

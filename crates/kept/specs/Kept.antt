@@ -13,10 +13,10 @@ use Rattle.cap.specs.Cap.{Within}
 use Rattle.checks.specs.declared.Effect.{Effect}
 use Rattle.checks.specs.declared.Planned.{Planned}
 use Rattle.core.specs.declared.Pending.{Pending}
-use Rattle.perform.specs.declared.Change.{Change}
-use Rattle.perform.specs.declared.Turn.{Turn}
-use Rattle.perform.specs.Perform.{toCapability}
-use Rattle.perform.specs.Act.{plannedOf}
+use Rattle.manual.specs.declared.Change.{Change}
+use Rattle.manual.specs.declared.Turn.{Turn}
+use Rattle.manual.specs.Perform.{toCapability}
+use Rattle.manual.specs.Act.{plannedOf}
 use Rattle.fetch.specs.Fetch.{wordOf}
 use Rattle.core.specs.Registers.{isPending}
 use Rattle.core.specs.declared.Machine.{Machine}

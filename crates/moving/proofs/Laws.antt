@@ -11,8 +11,8 @@ use Rattle.access.specs.declared.Access.{Access}
 use Rattle.checks.specs.declared.Named.{Named}
 use Rattle.checks.specs.declared.Planned.{Planned}
 use Rattle.checks.specs.Checks.{settle}
-use Rattle.transfer.specs.Transfer.{load, store}
-use Rattle.plan.specs.declared.Operands.{Operands}
+use Rattle.manual.specs.Transfer.{load, store}
+use Rattle.manual.specs.declared.Operands.{Operands}
 use Rattle.data.specs.Data.{Reaches, loadedAt, storedAt, storesRam, storesTags}
 use Rattle.special.proofs.Does.{load-does, store-does}
 use Rattle.deriving.specs.Deriving.{putsStored}

@@ -8,26 +8,13 @@ use fetch::Fetched;
 use line::LoadedCap;
 use mem::Loaded;
 use num::Size;
-use plan::Operands;
+use manual::Change;
+use manual::Operands;
+use manual::Turn;
 use store::Stored;
 ghost use mathlib.Core.Path.{_≡_};
-ghost use Rattle.perform.specs.Perform.{toGeneral, toCapability, loadedTurn, storedTurn, capTurn, turnOf, ramOf, tagsOf};
-ghost use Rattle.perform.specs.Act.{actTurn, actRam, actTags};
-
-// What a step writes; register 0 and C0 as it was stand for none.
-pub struct Change {
-    pub rd: u8,
-    pub value: u64,
-    pub cd: u8,
-    pub cap: Cap,
-    pub cause: u16,
-    pub jump: Pending,
-}
-
-pub enum Turn {
-    Next(Change),
-    Stops(Fault),
-}
+ghost use Rattle.manual.specs.Perform.{toGeneral, toCapability, loadedTurn, storedTurn, capTurn, turnOf, ramOf, tagsOf};
+ghost use Rattle.manual.specs.Act.{actTurn, actRam, actTags};
 
 fn writes_general(c0: Cap, cause: u16, rd: u8, value: u64) -> Turn
     ensures { λ r. ⌜ r ≡ Turn.Next (toGeneral c0 cause rd value) ⌝ }

@@ -14,16 +14,16 @@ use Rattle.checks.specs.declared.Named.{Named}
 use Rattle.checks.specs.declared.Fault.{Fault}
 use Rattle.checks.specs.declared.Planned.{Planned}
 use Rattle.checks.specs.Checks.{settle}
-use Rattle.transfer.specs.Transfer.{load, store}
+use Rattle.manual.specs.Transfer.{load, store}
 use Rattle.isa.specs.Decode.{lookup, majors, decodeWord, isJumpWord}
-use Rattle.branch.specs.Branch.{wanted, branch}
-use Rattle.plan.specs.declared.Operands.{Operands}
-use Rattle.plan.specs.Plan.{planOf}
-use Rattle.perform.specs.declared.Change.{Change}
-use Rattle.perform.specs.declared.Turn.{Turn}
+use Rattle.manual.specs.Branch.{wanted, branch}
+use Rattle.manual.specs.declared.Operands.{Operands}
+use Rattle.manual.specs.Plan.{planOf}
+use Rattle.manual.specs.declared.Change.{Change}
+use Rattle.manual.specs.declared.Turn.{Turn}
 use Rattle.fetch.specs.declared.Fetched.{Fetched}
-use Rattle.perform.specs.Perform.{turnOf, ramOf, tagsOf}
-use Rattle.perform.specs.Act.{plannedOf, doneTurn}
+use Rattle.manual.specs.Perform.{turnOf, ramOf, tagsOf}
+use Rattle.manual.specs.Act.{plannedOf, doneTurn}
 use Rattle.special.specs.Special.{Means}
 use Rattle.special.proofs.Does.{load-does, store-does}
 use Rattle.fetch.specs.Fetch.{RESERVED, aheadOf}

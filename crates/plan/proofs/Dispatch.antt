@@ -3,8 +3,8 @@ use mathlib.Core.Path.{_≡_}
 use Rattle.isa.specs.declared.Instr.{Instr}
 use Rattle.checks.specs.declared.Planned.{Planned}
 use Rattle.checks.specs.Checks.{settle}
-use Rattle.plan.specs.declared.Operands.{Operands}
-use Rattle.plan.specs.Plan.{planOf}
+use Rattle.manual.specs.declared.Operands.{Operands}
+use Rattle.manual.specs.Plan.{planOf}
 
 pub at : (o : Operands) (i j : Instr) (r : Planned) → i ≡ j → r ≡ settle (planOf o j) → r ≡ settle (planOf o i)
 at o i j r e h = rw e h

@@ -5,27 +5,10 @@ use checks::Fault;
 use checks::Named;
 use checks::Planned;
 use isa::Instr;
+use manual::Operands;
 ghost use mathlib.Core.Path.{_≡_};
 ghost use Rattle.checks.specs.Checks.{settle};
-ghost use Rattle.plan.specs.Plan.{planOf};
-
-// The registers that the word's fields 25..21, 20..16, 15..11 and 10..6 name, C0, PCC and the cause.
-pub struct Operands {
-    pub n25: u8,
-    pub n20: u8,
-    pub n15: u8,
-    pub g25: u64,
-    pub g20: u64,
-    pub g15: u64,
-    pub g10: u64,
-    pub c25: Named,
-    pub c20: Named,
-    pub c15: Named,
-    pub c10: Named,
-    pub c0: Named,
-    pub pcc: Cap,
-    pub cause: u16,
-}
+ghost use Rattle.manual.specs.Plan.{planOf};
 
 fn sets(rd: u8, value: u64) -> Planned
     ensures { λ r. ⌜ r ≡ Planned.Does (Effect.General rd value) ⌝ }

@@ -10,9 +10,9 @@ use Rattle.isa.specs.declared.Instr.{Instr}
 use Rattle.isa.specs.Decode.{ifZero}
 use Rattle.checks.specs.declared.Named.{Named}
 use Rattle.checks.specs.Checks.{settle}
-use Rattle.inspect.specs.Inspect.{fieldOf, get}
-use Rattle.plan.specs.declared.Operands.{Operands}
-use Rattle.plan.specs.Plan.{planOf}
+use Rattle.manual.specs.Inspect.{fieldOf, get}
+use Rattle.manual.specs.declared.Operands.{Operands}
+use Rattle.manual.specs.Plan.{planOf}
 use Rattle.checks.proofs.Tests.{both-true}
 use Rattle.deriving.specs.Deriving.{Leads}
 use Rattle.reading.specs.Reading.{setsWhere}

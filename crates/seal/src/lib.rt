@@ -11,7 +11,7 @@ ghost use mathlib.Core.Path.{_≡_};
 ghost use Prim.Native.Nat.{_+_};
 ghost use lib.Dec.{eqb, ltb};
 ghost use Rattle.checks.specs.Checks.{settle};
-ghost use Rattle.seal.specs.Seal.{cSeal, cUnseal};
+ghost use Rattle.manual.specs.Seal.{cSeal, cUnseal};
 
 // Whether a + b, exactly, is below a limit.
 fn sum_below(a: u64, b: u64, limit: u64) -> bool

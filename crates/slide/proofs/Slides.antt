@@ -10,15 +10,15 @@ use Rattle.cap.specs.declared.Cap.{Cap}
 use Rattle.narrow.specs.Narrow.{null, setOffset, incOffset}
 use Rattle.isa.specs.Word.{field25, field20, field15}
 use Rattle.isa.specs.Decode.{decodeWord}
-use Rattle.branch.specs.Branch.{branchOffset, branchTo}
+use Rattle.manual.specs.Branch.{branchOffset, branchTo}
 use Rattle.checks.specs.declared.Planned.{Planned}
 use Rattle.checks.specs.Checks.{settle}
-use Rattle.plan.specs.declared.Operands.{Operands}
-use Rattle.plan.specs.Plan.{planOf}
-use Rattle.perform.specs.declared.Change.{Change}
+use Rattle.manual.specs.declared.Operands.{Operands}
+use Rattle.manual.specs.Plan.{planOf}
+use Rattle.manual.specs.declared.Change.{Change}
 use Rattle.core.specs.declared.Pending.{Pending}
 use Rattle.fetch.specs.declared.Fetched.{Fetched}
-use Rattle.perform.specs.Perform.{toGeneral}
+use Rattle.manual.specs.Perform.{toGeneral}
 use Rattle.fetch.specs.Fetch.{fetchOf, wordOf, aheadOf}
 use Rattle.core.specs.Registers.{isPending}
 use Rattle.special.specs.declared.Plain.{Plain}

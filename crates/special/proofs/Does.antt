@@ -20,9 +20,9 @@ use Rattle.checks.specs.declared.Fault.{Fault}
 use Rattle.checks.specs.declared.Effect.{Effect}
 use Rattle.checks.specs.declared.Planned.{Planned}
 use Rattle.checks.specs.Checks.{settle}
-use Rattle.transfer.specs.Transfer.{load, store}
-use Rattle.plan.specs.declared.Operands.{Operands}
-use Rattle.perform.specs.Perform.{toGeneral, turnOf, ramOf, tagsOf}
+use Rattle.manual.specs.Transfer.{load, store}
+use Rattle.manual.specs.declared.Operands.{Operands}
+use Rattle.manual.specs.Perform.{toGeneral, turnOf, ramOf, tagsOf}
 use Rattle.special.specs.Special.{Does}
 use Rattle.data.specs.Data.{Reaches, extendedIn, loadedAt, storedAt, storesRam, storesTags}
 use Rattle.data.proofs.Reaches.{planned-reached}

@@ -11,9 +11,9 @@ use Rattle.isa.specs.declared.Alu.{Alu}
 use Rattle.isa.specs.declared.Instr.{Instr}
 use Rattle.isa.specs.Decode.{ifZero}
 use Rattle.compute.specs.Compute.{computeOf}
-use Rattle.plan.specs.declared.Operands.{Operands}
-use Rattle.plan.specs.Plan.{planOf}
-use Rattle.perform.specs.Perform.{turnOf, ramOf, tagsOf}
+use Rattle.manual.specs.declared.Operands.{Operands}
+use Rattle.manual.specs.Plan.{planOf}
+use Rattle.manual.specs.Perform.{turnOf, ramOf, tagsOf}
 use Rattle.special.specs.declared.Plain.{Plain}
 use Rattle.special.specs.Special.{Does, Means, setsWhere}
 

@@ -6,14 +6,14 @@ use mathlib.Core.List.{List}
 use Rattle.isa.specs.Decode.{specialWord}
 use Rattle.checks.specs.declared.Planned.{Planned}
 use Rattle.checks.specs.Checks.{settle}
-use Rattle.branch.specs.Branch.{branchTo}
-use Rattle.plan.specs.declared.Operands.{Operands}
-use Rattle.plan.specs.Plan.{planOf}
+use Rattle.manual.specs.Branch.{branchTo}
+use Rattle.manual.specs.declared.Operands.{Operands}
+use Rattle.manual.specs.Plan.{planOf}
 use Rattle.core.specs.declared.Pending.{Pending}
-use Rattle.perform.specs.declared.Change.{Change}
-use Rattle.perform.specs.declared.Turn.{Turn}
-use Rattle.perform.specs.Perform.{toGeneral, toCapability}
-use Rattle.perform.specs.Act.{doneTurn, doneRam, doneTags}
+use Rattle.manual.specs.declared.Change.{Change}
+use Rattle.manual.specs.declared.Turn.{Turn}
+use Rattle.manual.specs.Perform.{toGeneral, toCapability}
+use Rattle.manual.specs.Act.{doneTurn, doneRam, doneTags}
 use Rattle.deriving.specs.declared.Capable.{Capable}
 use Rattle.special.specs.declared.Plain.{Plain}
 

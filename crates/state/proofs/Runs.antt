@@ -8,14 +8,14 @@ use Rattle.cap.specs.declared.Cap.{Cap}
 use Rattle.narrow.specs.Narrow.{null}
 use Rattle.isa.specs.Word.{field25, field20, field15, field10}
 use Rattle.checks.specs.declared.Fault.{Fault}
-use Rattle.plan.specs.declared.Operands.{Operands}
-use Rattle.perform.specs.declared.Change.{Change}
+use Rattle.manual.specs.declared.Operands.{Operands}
+use Rattle.manual.specs.declared.Change.{Change}
 use Rattle.fetch.specs.declared.Fetched.{Fetched}
-use Rattle.perform.specs.declared.Turn.{Turn}
-use Rattle.perform.specs.Act.{plannedOf, actTurn, actRam, actTags}
+use Rattle.manual.specs.declared.Turn.{Turn}
+use Rattle.manual.specs.Act.{plannedOf, actTurn, actRam, actTags}
 use Rattle.fetch.specs.Fetch.{fetchOf, wordOf}
 use Rattle.core.specs.Registers.{isPending}
-use Rattle.perform.proofs.Keeps.{stop-keeps}
+use Rattle.manual.proofs.Keeps.{stop-keeps}
 use Rattle.core.specs.declared.Machine.{Machine}
 use Rattle.state.specs.declared.Outcome.{Outcome}
 use Rattle.state.specs.State.{operandsBy, operandsOf, kept, nextPcc, commit, stoppedAt, endedWith}

@@ -9,9 +9,9 @@ use Rattle.narrow.specs.Narrow.{null, incOffset}
 use Rattle.isa.specs.Word.{field25, field20, field15, field10}
 use Rattle.checks.specs.declared.Fault.{Fault}
 use Rattle.checks.specs.Checks.{stopNumber}
-use Rattle.plan.specs.declared.Operands.{Operands}
+use Rattle.manual.specs.declared.Operands.{Operands}
 use Rattle.core.specs.declared.Pending.{Pending}
-use Rattle.perform.specs.declared.Change.{Change}
+use Rattle.manual.specs.declared.Change.{Change}
 use Rattle.core.specs.declared.Machine.{Machine}
 use Rattle.state.specs.declared.Outcome.{Outcome}
 

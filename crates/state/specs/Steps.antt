@@ -1,10 +1,10 @@
 -- Many steps: as many as the budget has, or up to the one that stops (01, "Stop numbers").
 use Prim.Native.Nat.{ℕ, zero, suc, _+_}
 use mathlib.Core.List.{List}
-use Rattle.perform.specs.declared.Turn.{Turn}
-use Rattle.perform.specs.declared.Turn.the-variants.{Next, Stops}
+use Rattle.manual.specs.declared.Turn.{Turn}
+use Rattle.manual.specs.declared.Turn.the-variants.{Next, Stops}
 use Rattle.fetch.specs.declared.Fetched.{Fetched}
-use Rattle.perform.specs.Act.{actTurn, actRam, actTags}
+use Rattle.manual.specs.Act.{actTurn, actRam, actTags}
 use Rattle.fetch.specs.Fetch.{fetchOf, wordOf}
 use Rattle.core.specs.Registers.{isPending}
 use Rattle.core.specs.declared.Machine.{Machine}

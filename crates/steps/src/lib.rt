@@ -1,6 +1,6 @@
 // The steps of a run, one after the other: by the shorter way as far as it goes, each other one by the whole way.
 use core::Machine;
-use perform::Turn;
+use manual::Turn;
 use state::Outcome;
 ghost use mathlib.Core.Path.{_≡_};
 ghost use mathlib.Core.List.{List};

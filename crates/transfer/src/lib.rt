@@ -12,7 +12,7 @@ ghost use mathlib.Core.Path.{_≡_};
 ghost use mathlib.Core.Bool.{Bool, _||_, not};
 ghost use Rattle.cap.specs.Cap.{permits, GLOBAL, STORE-LOCAL};
 ghost use Rattle.checks.specs.Checks.{settle};
-ghost use Rattle.transfer.specs.Transfer.{Through, mayStore, load, store, cLC, cSC};
+ghost use Rattle.manual.specs.Transfer.{Through, mayStore, load, store, cLC, cSC};
 
 // What every access through cb asks before its range: open, tagged, unsealed, permitted.
 pub fn through(k: Check, pcc: Cap, cb: Named, permission: u32) -> Check

@@ -7,7 +7,7 @@ use Rattle.num.specs.Number.{movedBy}
 use Rattle.cap.specs.declared.Cap.{Cap}
 use Rattle.narrow.specs.Narrow.{setOffset}
 use Rattle.isa.specs.Word.{major, field25}
-use Rattle.branch.specs.Branch.{branchOffset}
+use Rattle.manual.specs.Branch.{branchOffset}
 use Rattle.core.specs.declared.Pending.{Pending}
 use Rattle.way.specs.declared.Way.{Way}
 

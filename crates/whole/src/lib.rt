@@ -3,12 +3,12 @@ use cap::Cap;
 use checks::Named;
 use core::Pending;
 use fetch::Fetched;
-use perform::Turn;
-use plan::Operands;
+use manual::Turn;
+use manual::Operands;
 ghost use mathlib.Core.Path.{_≡_};
 ghost use mathlib.Core.List.{List};
 ghost use Rattle.core.specs.Registers.{isPending};
-ghost use Rattle.perform.specs.Act.{actTurn, actRam, actTags};
+ghost use Rattle.manual.specs.Act.{actTurn, actRam, actTags};
 ghost use Rattle.state.specs.State.{operandsBy};
 
 // The registers that a word names, as values.

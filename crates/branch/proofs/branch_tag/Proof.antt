@@ -1,7 +1,7 @@
 use Rattle.num.proofs.Calls.{asks}
 use mathlib.Core.Path.{sym, _∙_}
 use Rattle.checks.proofs.Chains.{start, one-way, other-way}
-use Rattle.branch.specs.Branch.{branchTag}
+use Rattle.manual.specs.Branch.{branchTag}
 use Rattle.branch.proofs.branch_tag.Statement.{statement}
 use Rattle.branch.proofs.branch_tag.Tie as tie
 

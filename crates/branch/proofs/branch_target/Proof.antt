@@ -1,5 +1,5 @@
 use Rattle.num.proofs.Calls.{asks}
-use Rattle.branch.specs.Branch.{branchTo}
+use Rattle.manual.specs.Branch.{branchTo}
 use Rattle.branch.proofs.branch_target.Statement.{statement}
 use Rattle.branch.proofs.branch_target.Tie as tie
 

@@ -1,6 +1,6 @@
 use Rattle.num.proofs.Calls.{asks}
 use Rattle.checks.specs.Checks.{settle}
-use Rattle.branch.specs.Branch.{branch}
+use Rattle.manual.specs.Branch.{branch}
 use Rattle.branch.proofs.plan_branch.Statement.{statement}
 use Rattle.branch.proofs.plan_branch.Tie as tie
 

@@ -3,7 +3,7 @@ use Rattle.num.proofs.Calls.{asks}
 use Rattle.isa.specs.Word.{signed16}
 use Rattle.isa.specs.Decode.{lookup, majors, decodeWord, capabilityWord}
 use Rattle.checks.specs.Checks.{settle}
-use Rattle.plan.specs.Plan.{planOf}
+use Rattle.manual.specs.Plan.{planOf}
 use Rattle.capable.proofs.Laws.{leads-amount}
 use Rattle.capable.proofs.capably.Statement.{statement}
 use Rattle.capable.proofs.capably.Tie as tie

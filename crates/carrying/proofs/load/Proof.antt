@@ -1,5 +1,5 @@
 use Rattle.num.proofs.Calls.{asks}
-use Rattle.plan.specs.Plan.{planOf}
+use Rattle.manual.specs.Plan.{planOf}
 use Rattle.carrying.proofs.Laws.{clc-amounts}
 use Rattle.carrying.proofs.load.Statement.{statement}
 use Rattle.carrying.proofs.load.Tie as tie

@@ -1,6 +1,6 @@
 use borrow.Author.Needs.{needs}
 use Rattle.num.proofs.Calls.{asks}
-use Rattle.plan.specs.Plan.{planOf}
+use Rattle.manual.specs.Plan.{planOf}
 use Rattle.carrying.proofs.Laws.{csc-amounts, stores}
 use Rattle.carrying.proofs.store.Statement.{statement}
 use Rattle.carrying.proofs.store.Tie as tie

@@ -1,5 +1,5 @@
 use Rattle.num.proofs.Calls.{asks}
-use Rattle.compare.specs.Compare.{compares}
+use Rattle.manual.specs.Compare.{compares}
 use borrow.Author.Needs.{needs}
 use Rattle.compare.proofs.do_compare.Statement.{statement}
 use Rattle.compare.proofs.do_compare.Tie as tie

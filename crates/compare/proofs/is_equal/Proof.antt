@@ -1,6 +1,6 @@
 use Rattle.num.proofs.Calls.{asks}
 use mathlib.Core.Path.{_∙_}
-use Rattle.compare.specs.Compare.{isEqual}
+use Rattle.manual.specs.Compare.{isEqual}
 use Rattle.compare.proofs.is_equal.Statement.{statement}
 use Rattle.compare.proofs.is_equal.Tie as tie
 

@@ -1,5 +1,5 @@
 use Rattle.num.proofs.Calls.{asks}
-use Rattle.compare.specs.Compare.{isLess}
+use Rattle.manual.specs.Compare.{isLess}
 use Rattle.compare.proofs.is_less.Statement.{statement}
 use Rattle.compare.proofs.is_less.Tie as tie
 

@@ -1,6 +1,6 @@
 use Rattle.num.proofs.Calls.{asks}
 use mathlib.Core.Path.{_∙_}
-use Rattle.compare.specs.Compare.{isLessSigned}
+use Rattle.manual.specs.Compare.{isLessSigned}
 use Rattle.compare.proofs.is_less_signed.Statement.{statement}
 use Rattle.compare.proofs.is_less_signed.Tie as tie
 

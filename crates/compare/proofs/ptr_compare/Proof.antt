@@ -1,7 +1,7 @@
 use Rattle.num.proofs.Calls.{asks}
 use mathlib.Core.Path.{_∙_}
 use Rattle.checks.proofs.Chains.{start}
-use Rattle.compare.specs.Compare.{cPtrCmp}
+use Rattle.manual.specs.Compare.{cPtrCmp}
 use Rattle.compare.proofs.ptr_compare.Statement.{statement}
 use Rattle.compare.proofs.ptr_compare.Tie as tie
 

@@ -1,7 +1,7 @@
 use Rattle.num.proofs.Calls.{asks}
 use mathlib.Core.Path.{_∙_}
 use Rattle.checks.proofs.Chains.{start}
-use Rattle.derive.specs.Derive.{cAndPerm}
+use Rattle.manual.specs.Derive.{cAndPerm}
 use Rattle.derive.proofs.and_perm.Statement.{statement}
 use Rattle.derive.proofs.and_perm.Tie as tie
 

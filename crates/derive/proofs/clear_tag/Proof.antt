@@ -1,7 +1,7 @@
 use Rattle.num.proofs.Calls.{asks}
 use mathlib.Core.Path.{_∙_}
 use Rattle.checks.proofs.Chains.{start}
-use Rattle.derive.specs.Derive.{cClearTag}
+use Rattle.manual.specs.Derive.{cClearTag}
 use Rattle.derive.proofs.clear_tag.Statement.{statement}
 use Rattle.derive.proofs.clear_tag.Tie as tie
 

@@ -1,7 +1,7 @@
 use Rattle.num.proofs.Calls.{asks}
 use mathlib.Core.Path.{_∙_}
 use Rattle.checks.proofs.Chains.{start}
-use Rattle.derive.specs.Derive.{cFromPtr}
+use Rattle.manual.specs.Derive.{cFromPtr}
 use Rattle.derive.proofs.from_ptr.Statement.{statement}
 use Rattle.derive.proofs.from_ptr.Tie as tie
 

@@ -3,7 +3,7 @@ use Rattle.num.proofs.Calls.{asks}
 use Rattle.isa.specs.declared.Instr.{Instr}
 use Rattle.isa.specs.Word.{below}
 use Rattle.isa.specs.Decode.{lookup, numbers, unused, capabilityWord}
-use Rattle.plan.specs.Plan.{planOf}
+use Rattle.manual.specs.Plan.{planOf}
 use Rattle.deriving.proofs.Laws.{leads, Tests, tested, and-perm, clear-tag, inc-base, set-len, set-offset, inc-offset}
 use Rattle.deriving.proofs.derived.Statement.{statement}
 use Rattle.deriving.proofs.derived.Tie as tie

@@ -1,7 +1,7 @@
 use Rattle.num.proofs.Calls.{asks}
 use mathlib.Core.Path.{_∙_}
 use Rattle.checks.proofs.Chains.{start}
-use Rattle.inspect.specs.Inspect.{cCheckPerm}
+use Rattle.manual.specs.Inspect.{cCheckPerm}
 use borrow.Author.Needs.{needs}
 use Rattle.inspect.proofs.check_perm.Statement.{statement}
 use Rattle.inspect.proofs.check_perm.Tie as tie

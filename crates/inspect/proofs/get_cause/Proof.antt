@@ -1,6 +1,6 @@
 use Rattle.num.proofs.Calls.{asks}
 use mathlib.Core.Path.{_∙_}
-use Rattle.inspect.specs.Inspect.{cGetCause}
+use Rattle.manual.specs.Inspect.{cGetCause}
 use Rattle.inspect.proofs.get_cause.Statement.{statement}
 use Rattle.inspect.proofs.get_cause.Tie as tie
 

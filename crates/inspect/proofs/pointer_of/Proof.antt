@@ -1,5 +1,5 @@
 use Rattle.num.proofs.Calls.{asks}
-use Rattle.inspect.specs.Inspect.{pointerOf}
+use Rattle.manual.specs.Inspect.{pointerOf}
 use Rattle.inspect.proofs.pointer_of.Statement.{statement}
 use Rattle.inspect.proofs.pointer_of.Tie as tie
 

@@ -1,6 +1,6 @@
 use Rattle.num.proofs.Calls.{asks}
 use mathlib.Core.Path.{_∙_}
-use Rattle.inspect.specs.Inspect.{cSetCause}
+use Rattle.manual.specs.Inspect.{cSetCause}
 use borrow.Author.Needs.{needs}
 use Rattle.inspect.proofs.set_cause.Statement.{statement}
 use Rattle.inspect.proofs.set_cause.Tie as tie

@@ -1,6 +1,6 @@
 use Rattle.checks.specs.Checks.{settle}
 use mathlib.Core.Path.{refl}
-use Rattle.jump.specs.Jump.{cCall}
+use Rattle.manual.specs.Jump.{cCall}
 use Rattle.jump.proofs.ccall.Statement.{statement}
 use Rattle.jump.proofs.ccall.Tie as tie
 

@@ -1,7 +1,7 @@
 use Rattle.num.proofs.Calls.{asks}
 use mathlib.Core.Path.{_∙_}
 use Rattle.checks.proofs.Chains.{start}
-use Rattle.jump.specs.Jump.{cJALR}
+use Rattle.manual.specs.Jump.{cJALR}
 use Rattle.jump.proofs.cjalr.Statement.{statement}
 use Rattle.jump.proofs.cjalr.Tie as tie
 

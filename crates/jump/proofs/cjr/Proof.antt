@@ -1,7 +1,7 @@
 use Rattle.num.proofs.Calls.{asks}
 use mathlib.Core.Path.{_∙_}
 use Rattle.checks.proofs.Chains.{start}
-use Rattle.jump.specs.Jump.{cJR}
+use Rattle.manual.specs.Jump.{cJR}
 use Rattle.jump.proofs.cjr.Statement.{statement}
 use Rattle.jump.proofs.cjr.Tie as tie
 

@@ -1,6 +1,6 @@
 use Rattle.checks.specs.Checks.{settle}
 use mathlib.Core.Path.{refl}
-use Rattle.jump.specs.Jump.{cReturn}
+use Rattle.manual.specs.Jump.{cReturn}
 use Rattle.jump.proofs.creturn.Statement.{statement}
 use Rattle.jump.proofs.creturn.Tie as tie
 

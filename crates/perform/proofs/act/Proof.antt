@@ -1,6 +1,6 @@
 use Rattle.num.proofs.Calls.{asks}
 use mathlib.Core.Path.{refl}
-use Rattle.perform.specs.Act.{plannedOf}
+use Rattle.manual.specs.Act.{plannedOf}
 use borrow.Author.Needs.{needs}
 use Rattle.perform.proofs.act.Statement.{statement}
 use Rattle.perform.proofs.act.Tie as tie

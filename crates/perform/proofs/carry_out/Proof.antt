@@ -1,6 +1,6 @@
 use Rattle.num.proofs.Calls.{asks}
 use mathlib.Core.Path.{refl}
-use Rattle.perform.specs.Perform.{turnOf, ramOf, tagsOf}
+use Rattle.manual.specs.Perform.{turnOf, ramOf, tagsOf}
 use borrow.Author.Needs.{needs}
 use Rattle.perform.proofs.carry_out.Statement.{statement}
 use Rattle.perform.proofs.carry_out.Tie as tie

@@ -4,7 +4,7 @@ use borrow.Author.Needs.{needs}
 use Rattle.cap.specs.Cap.{registerOpen}
 use Rattle.isa.specs.Word.{field25}
 use Rattle.isa.specs.Decode.{lookup, majors, decodeWord}
-use Rattle.plan.specs.Plan.{planOf}
+use Rattle.manual.specs.Plan.{planOf}
 use Rattle.special.proofs.Laws.{immediate-means, lui-means}
 use Rattle.plain.proofs.Laws.{load-means, store-means, branch-means}
 use Rattle.plain.proofs.plainly.Statement.{statement}

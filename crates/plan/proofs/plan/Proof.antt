@@ -1,6 +1,6 @@
 use Rattle.num.proofs.Calls.{asks}
 use Rattle.checks.specs.Checks.{settle}
-use Rattle.plan.specs.Plan.{planOf}
+use Rattle.manual.specs.Plan.{planOf}
 use borrow.Author.Needs.{needs}
 use Rattle.plan.proofs.plan.Statement.{statement}
 use Rattle.plan.proofs.plan.Tie as tie

@@ -1,7 +1,7 @@
 use Rattle.num.proofs.Calls.{asks}
 use mathlib.Core.Path.{_∙_}
 use Rattle.checks.proofs.Chains.{start}
-use Rattle.seal.specs.Seal.{cSeal}
+use Rattle.manual.specs.Seal.{cSeal}
 use Rattle.seal.proofs.seal.Statement.{statement}
 use Rattle.seal.proofs.seal.Tie as tie
 

@@ -1,7 +1,7 @@
 use Rattle.num.proofs.Calls.{asks}
 use mathlib.Core.Path.{_∙_}
 use Rattle.checks.proofs.Chains.{start}
-use Rattle.seal.specs.Seal.{cUnseal}
+use Rattle.manual.specs.Seal.{cUnseal}
 use borrow.Author.Needs.{needs}
 use Rattle.seal.proofs.unseal.Statement.{statement}
 use Rattle.seal.proofs.unseal.Tie as tie

@@ -1,7 +1,7 @@
 use Rattle.num.proofs.Calls.{asks}
 use mathlib.Core.Path.{sym, _∙_}
 use Rattle.checks.proofs.Chains.{start}
-use Rattle.transfer.specs.Transfer.{cLC}
+use Rattle.manual.specs.Transfer.{cLC}
 use borrow.Author.Needs.{needs}
 use Rattle.transfer.proofs.clc.Statement.{statement}
 use Rattle.transfer.proofs.clc.Tie as tie

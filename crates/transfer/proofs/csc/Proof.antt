@@ -1,7 +1,7 @@
 use Rattle.num.proofs.Calls.{asks}
 use mathlib.Core.Path.{sym, _∙_}
 use Rattle.checks.proofs.Chains.{start}
-use Rattle.transfer.specs.Transfer.{cSC}
+use Rattle.manual.specs.Transfer.{cSC}
 use borrow.Author.Needs.{needs}
 use Rattle.transfer.proofs.csc.Statement.{statement}
 use Rattle.transfer.proofs.csc.Tie as tie

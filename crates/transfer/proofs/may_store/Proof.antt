@@ -1,5 +1,5 @@
 use Rattle.num.proofs.Calls.{asks}
-use Rattle.transfer.specs.Transfer.{mayStore}
+use Rattle.manual.specs.Transfer.{mayStore}
 use Rattle.transfer.proofs.may_store.Statement.{statement}
 use Rattle.transfer.proofs.may_store.Tie as tie
 

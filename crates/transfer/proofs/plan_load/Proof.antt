@@ -1,7 +1,7 @@
 use Rattle.num.proofs.Calls.{asks}
 use mathlib.Core.Path.{sym, _∙_}
 use Rattle.checks.proofs.Chains.{start}
-use Rattle.transfer.specs.Transfer.{load}
+use Rattle.manual.specs.Transfer.{load}
 use borrow.Author.Needs.{needs}
 use Rattle.transfer.proofs.plan_load.Statement.{statement}
 use Rattle.transfer.proofs.plan_load.Tie as tie

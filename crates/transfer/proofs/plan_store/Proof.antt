@@ -1,7 +1,7 @@
 use Rattle.num.proofs.Calls.{asks}
 use mathlib.Core.Path.{sym, _∙_}
 use Rattle.checks.proofs.Chains.{start}
-use Rattle.transfer.specs.Transfer.{store}
+use Rattle.manual.specs.Transfer.{store}
 use borrow.Author.Needs.{needs}
 use Rattle.transfer.proofs.plan_store.Statement.{statement}
 use Rattle.transfer.proofs.plan_store.Tie as tie

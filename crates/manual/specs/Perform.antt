@@ -14,8 +14,8 @@ use Rattle.line.specs.Line.{encode, loadCap}
 use Rattle.checks.specs.declared.Fault.{Fault}
 use Rattle.checks.specs.declared.Effect.{Effect}
 use Rattle.core.specs.declared.Pending.{Pending}
-use Rattle.perform.specs.declared.Change.{Change}
-use Rattle.perform.specs.declared.Turn.{Turn}
+use Rattle.manual.specs.declared.Change.{Change}
+use Rattle.manual.specs.declared.Turn.{Turn}
 
 -- one general register; register 0 where there is none
 abbrev pub toGeneral : Cap → ℕ → ℕ → ℕ → Change

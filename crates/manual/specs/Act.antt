@@ -6,11 +6,11 @@ use Rattle.isa.specs.Decode.{decodeWord, isJumpWord}
 use Rattle.checks.specs.declared.Fault.{Fault}
 use Rattle.checks.specs.declared.Planned.{Planned}
 use Rattle.checks.specs.Checks.{settle}
-use Rattle.plan.specs.declared.Operands.{Operands}
-use Rattle.plan.specs.Plan.{planOf}
-use Rattle.perform.specs.declared.Turn.{Turn}
+use Rattle.manual.specs.declared.Operands.{Operands}
+use Rattle.manual.specs.Plan.{planOf}
+use Rattle.manual.specs.declared.Turn.{Turn}
 use Rattle.fetch.specs.declared.Fetched.{Fetched}
-use Rattle.perform.specs.Perform.{turnOf, ramOf, tagsOf}
+use Rattle.manual.specs.Perform.{turnOf, ramOf, tagsOf}
 
 -- a step tests fetch, then 7, then 4, then the instruction's own
 unfoldable pub plannedOf : Operands → Bool → Fetched → Planned

@@ -12,11 +12,11 @@ use Rattle.cap.specs.declared.Cap.{Cap}
 use Rattle.checks.specs.declared.Fault.{Fault}
 use Rattle.checks.specs.declared.Effect.{Effect}
 use Rattle.checks.specs.declared.Planned.{Planned}
-use Rattle.plan.specs.declared.Operands.{Operands}
-use Rattle.perform.specs.declared.Turn.{Turn}
-use Rattle.perform.specs.Perform.{storedTurn, turnOf, ramOf, tagsOf}
+use Rattle.manual.specs.declared.Operands.{Operands}
+use Rattle.manual.specs.declared.Turn.{Turn}
+use Rattle.manual.specs.Perform.{storedTurn, turnOf, ramOf, tagsOf}
 use Rattle.mem.specs.Place.{placeIn}
-use Rattle.perform.specs.Act.{doneTurn, doneRam, doneTags}
+use Rattle.manual.specs.Act.{doneTurn, doneRam, doneTags}
 
 -- a store that did not go into RAM
 place-keeps : (p : Place) (c0 : Cap) (cause : ℕ) (f : Fault) (ram bytes tags : List ℕ) (tag : Bool) → storedTurn c0 cause (answerAt p) ≡ Turn.Stops f

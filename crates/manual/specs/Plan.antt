@@ -6,14 +6,14 @@ use Rattle.checks.specs.declared.Effect.{Effect}
 use Rattle.checks.specs.declared.Fault.{Fault}
 use Rattle.checks.specs.Checks.{Checked, ok, fail}
 use Rattle.compute.specs.Compute.{computeOf}
-use Rattle.derive.specs.Derive.{cGetPCC, cAndPerm, cClearTag, cIncBase, cSetLen, cSetOffset, cIncOffset, cFromPtr}
-use Rattle.seal.specs.Seal.{cSeal, cUnseal}
-use Rattle.inspect.specs.Inspect.{get, cGetCause, cSetCause, cToPtr, cCheckPerm, cCheckType}
-use Rattle.compare.specs.Compare.{cPtrCmp}
-use Rattle.jump.specs.Jump.{cJR, cJALR, cCall, cReturn}
-use Rattle.branch.specs.Branch.{branch, branchTag}
-use Rattle.transfer.specs.Transfer.{load, store, cLC, cSC}
-use Rattle.plan.specs.declared.Operands.{Operands}
+use Rattle.manual.specs.Derive.{cGetPCC, cAndPerm, cClearTag, cIncBase, cSetLen, cSetOffset, cIncOffset, cFromPtr}
+use Rattle.manual.specs.Seal.{cSeal, cUnseal}
+use Rattle.manual.specs.Inspect.{get, cGetCause, cSetCause, cToPtr, cCheckPerm, cCheckType}
+use Rattle.manual.specs.Compare.{cPtrCmp}
+use Rattle.manual.specs.Jump.{cJR, cJALR, cCall, cReturn}
+use Rattle.manual.specs.Branch.{branch, branchTag}
+use Rattle.manual.specs.Transfer.{load, store, cLC, cSC}
+use Rattle.manual.specs.declared.Operands.{Operands}
 
 unfoldable pub planOf : Operands → Instr → Checked
 planOf o Instr.Reserved = fail Fault.Reserved

@@ -1,0 +1,2 @@
+pub mod Keeps
+pub mod Worked

@@ -1,0 +1,10 @@
+pub mod Derive
+pub mod Transfer
+pub mod Inspect
+pub mod Compare
+pub mod Branch
+pub mod Seal
+pub mod Jump
+pub mod Plan
+pub mod Act
+pub mod Perform

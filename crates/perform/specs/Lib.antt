@@ -1,2 +1,0 @@
-pub mod Perform
-pub mod Act
