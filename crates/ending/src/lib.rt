@@ -4,7 +4,9 @@ use checks::Fault;
 use core::Machine;
 use core::Pending;
 use state::Outcome;
+use told::Refusal;
 ghost use mathlib.Core.Path.{_≡_};
+ghost use Rattle.told.specs.Told.{refusalNumber};
 ghost use Rattle.state.specs.State.{causeOf, registerOf, causeAfter, stoppedAt, endedWith};
 
 fn cause_of(fault: Fault) -> u8
@@ -116,4 +118,11 @@ pub fn placeless(stop: u8, steps: u32, machine: Machine) -> Outcome
         steps,
         machine,
     }
+}
+
+// A refused start: no step was made, and the machine is as it came.
+pub fn refused(refusal: Refusal, machine: Machine) -> Outcome
+    ensures { λ r. ⌜ r ≡ endedWith (refusalNumber refusal) 0 machine ⌝ }
+{
+    placeless(told::refusal_number(refusal), 0, machine)
 }

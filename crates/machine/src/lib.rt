@@ -14,7 +14,7 @@ pub fn run(m: Machine, flash: &[u8], ram: &mut [u8], tags: &mut [u8], budget: u3
     let first = m.general[0];
     let verdict = accept::accept(m.caps, m.pcc, m.pending, first, flash.len(), ram, tags);
     match verdict {
-        Verdict::Refused(refusal) => ending::placeless(told::refusal_number(refusal), 0, m),
+        Verdict::Refused(refusal) => ending::refused(refusal, m),
         Verdict::Accepted => steps::go(m, flash, ram, tags, budget),
     }
 }

@@ -7,7 +7,7 @@ use Rattle.machine.proofs.run.Tie as tie
 
 returns : tie.Need-returns
 unfolding runOf
-returns c = rw (← sym (c .before .before .before .verdict .given .1) ∙ c .before .before .before .before .before .accept .ensures, ← c .before .refusal-number .ensures) (c .placeless .ensures, (refl, refl))
+returns c = rw (← sym (c .before .before .verdict .given .1) ∙ c .before .before .before .before .accept .ensures) (c .refused .ensures, (refl, refl))
 
 returns-2 : tie.Need-returns-2
 unfolding runOf
@@ -21,7 +21,7 @@ run-spec =
     (λ c. search needs)
     asks
     (λ c. search needs)
-    asks asks
+    asks
     (λ c. search needs)
     asks
     (λ c. search needs)

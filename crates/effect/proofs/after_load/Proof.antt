@@ -1,7 +1,7 @@
 use Rattle.num.proofs.Calls.{asks}
 use borrow.Author.Needs.{needs}
-use Rattle.perform.proofs.after_load.Statement.{statement}
-use Rattle.perform.proofs.after_load.Tie as tie
+use Rattle.effect.proofs.after_load.Statement.{statement}
+use Rattle.effect.proofs.after_load.Tie as tie
 
 returns : tie.Need-returns
 returns c = rw (c .before .before .before .loaded .given .1, ← c .before .extend .ensures) (c .writes-general .ensures)

@@ -1,7 +1,7 @@
 use Rattle.num.proofs.Calls.{asks}
 use borrow.Author.Needs.{needs}
-use Rattle.perform.proofs.after_load_capability.Statement.{statement}
-use Rattle.perform.proofs.after_load_capability.Tie as tie
+use Rattle.effect.proofs.after_load_capability.Statement.{statement}
+use Rattle.effect.proofs.after_load_capability.Tie as tie
 
 returns : tie.Need-returns
 returns c = rw (c .before .before .loaded .given .1) (c .writes-capability .ensures)

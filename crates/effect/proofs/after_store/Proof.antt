@@ -1,7 +1,7 @@
 use Rattle.num.proofs.Calls.{asks}
 use borrow.Author.Needs.{needs}
-use Rattle.perform.proofs.after_store.Statement.{statement}
-use Rattle.perform.proofs.after_store.Tie as tie
+use Rattle.effect.proofs.after_store.Statement.{statement}
+use Rattle.effect.proofs.after_store.Tie as tie
 
 returns : tie.Need-returns
 returns c = rw (c .before .enum-told .given .1) (c .writes-general .ensures)

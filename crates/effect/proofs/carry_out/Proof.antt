@@ -2,8 +2,8 @@ use Rattle.num.proofs.Calls.{asks}
 use mathlib.Core.Path.{refl}
 use Rattle.manual.specs.Perform.{turnOf, ramOf, tagsOf}
 use borrow.Author.Needs.{needs}
-use Rattle.perform.proofs.carry_out.Statement.{statement}
-use Rattle.perform.proofs.carry_out.Tie as tie
+use Rattle.effect.proofs.carry_out.Statement.{statement}
+use Rattle.effect.proofs.carry_out.Tie as tie
 
 returns : tie.Need-returns
 unfolding turnOf ramOf tagsOf
