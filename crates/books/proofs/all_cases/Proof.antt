@@ -7,11 +7,10 @@ use Rattle.books.proofs.all_cases.Statement.{statement}
 use Rattle.books.proofs.all_cases.Tie as tie
 
 abbrev Inv-loop : tie.InvT-loop
-Inv-loop space₀ book₀ ram₀ tags₀ counter₀ space book ram tags counter =
-    (length space ≡ length space₀) × (length book ≡ length book₀) × (length ram ≡ length ram₀) × (length tags ≡ length tags₀)
+Inv-loop space₀ book₀ counter₀ space book counter = (length space ≡ length space₀) × (length book ≡ length book₀)
 
 abbrev μ-loop : tie.MeasureT-loop
-μ-loop space₀ book₀ ram₀ tags₀ counter₀ space book ram tags counter = 1000000 - counter
+μ-loop space₀ book₀ counter₀ space book counter = 1000000 - counter
 
 pub all-cases-spec : {M : Type 1} → statement M
 all-cases-spec =
@@ -26,11 +25,7 @@ all-cases-spec =
     (λ c. search needs)
     (λ c. search needs)
     (λ c. search needs)
-    (λ c. search needs)
-    (λ c. search needs)
     (λ c κs. search needs)
-    (λ c. search needs)
-    (λ c. search needs)
     (λ c. search needs)
     (λ c. search needs)
     (λ c. search needs)
