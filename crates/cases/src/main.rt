@@ -11,6 +11,9 @@ const MOST_CASES: usize = 1_000_000;
 // A line more than the largest memory, for a size to refuse.
 const SPACE: usize = 65_568;
 
+// More than the tags of so large a memory.
+const TAGS: usize = 2_080;
+
 // Where the machine stands in a body: after the kind and the budget.
 const MACHINE: usize = 5;
 
@@ -30,40 +33,50 @@ fn print_outcome(o: Outcome) {
     print(sums::sum_machine(m), b' ');
 }
 
-fn run_in(body: &[u8], tags_at: usize, flash: &[u8], ram: &mut [u8], tags: &mut [u8]) {
-    pieces::put_memory(tags, body, tags_at);
+fn run(body: &[u8], flash: &[u8], ram: &mut [u8], tags: &mut [u8]) {
     let budget = tables::number_4(body, 1);
     print_outcome(machine::run(tables::machine_in(body, MACHINE), flash, ram, tags, budget));
+}
+
+fn run_in(body: &[u8], tags_at: usize, flash: &[u8], ram: &mut [u8], tags: &mut [u8]) {
+    pieces::put_memory(tags, body, tags_at);
+    run(body, flash, ram, tags);
     print(sums::sum_bytes(ram), b' ');
     print(sums::sum_bytes(tags), b'\n');
 }
 
-fn with_ram(body: &[u8], ram_at: usize, flash: &[u8], ram: &mut [u8], tags: &mut [u8]) {
+fn with_ram(body: &[u8], ram_at: usize, flash: &[u8], ram: &mut [u8]) {
     let tags_at = pieces::put_memory(ram, body, ram_at);
-    let n = pieces::size_in(body, tags_at, tags);
+    let mut tags = [0; TAGS];
+    let n = pieces::size_in(body, tags_at, &tags);
     run_in(body, tags_at, flash, ram, &mut tags[..n]);
 }
 
-fn with_flash(body: &[u8], flash_at: usize, flash: &mut [u8], ram: &mut [u8], tags: &mut [u8]) {
-    let ram_at = pieces::put_memory(flash, body, flash_at);
-    let n = pieces::size_in(body, ram_at, ram);
-    with_ram(body, ram_at, flash, &mut ram[..n], tags);
+fn over_flash(body: &[u8], ram_at: usize, flash: &[u8]) {
+    let mut ram = space();
+    let n = pieces::size_in(body, ram_at, &ram);
+    with_ram(body, ram_at, flash, &mut ram[..n]);
 }
 
-// Runs the case of this body in these spaces, of which each memory takes its size.
-fn run_case(body: &[u8], flash: &mut [u8], ram: &mut [u8], tags: &mut [u8]) {
+fn with_flash(body: &[u8], flash_at: usize, flash: &mut [u8]) {
+    let ram_at = pieces::put_memory(flash, body, flash_at);
+    over_flash(body, ram_at, flash);
+}
+
+// Runs the case of this body, whose flash takes its size of this space.
+fn run_case(body: &[u8], flash: &mut [u8]) {
     let flash_at = tables::machine_end(body, MACHINE);
     let n = pieces::size_in(body, flash_at, flash);
-    with_flash(body, flash_at, &mut flash[..n], ram, tags);
+    with_flash(body, flash_at, &mut flash[..n]);
 }
 
-fn run_cases(space: &mut [u8], flash: &mut [u8], ram: &mut [u8], tags: &mut [u8]) {
+fn run_cases(space: &mut [u8], flash: &mut [u8]) {
     for _ in 0..MOST_CASES {
         let n = pieces::next_body(space);
         if n == 0 {
             return;
         }
-        run_case(&space[..n], flash, ram, tags);
+        run_case(&space[..n], flash);
     }
 }
 
@@ -76,7 +89,5 @@ fn space() -> [u8; SPACE]
 fn main() {
     let mut body = space();
     let mut flash = space();
-    let mut ram = space();
-    let mut tags = space();
-    run_cases(&mut body, &mut flash, &mut ram, &mut tags);
+    run_cases(&mut body, &mut flash);
 }

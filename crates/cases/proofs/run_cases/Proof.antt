@@ -7,11 +7,10 @@ use Rattle.cases.proofs.run_cases.Statement.{statement}
 use Rattle.cases.proofs.run_cases.Tie as tie
 
 abbrev Inv-loop : tie.InvT-loop
-Inv-loop space₀ flash₀ ram₀ tags₀ counter₀ space flash ram tags counter =
-    (length space ≡ length space₀) × (length flash ≡ length flash₀) × (length ram ≡ length ram₀) × (length tags ≡ length tags₀)
+Inv-loop space₀ flash₀ counter₀ space flash counter = (length space ≡ length space₀) × (length flash ≡ length flash₀)
 
 abbrev μ-loop : tie.MeasureT-loop
-μ-loop space₀ flash₀ ram₀ tags₀ counter₀ space flash ram tags counter = 1000000 - counter
+μ-loop space₀ flash₀ counter₀ space flash counter = 1000000 - counter
 
 pub run-cases-spec : {M : Type 1} → statement M
 run-cases-spec =
@@ -26,11 +25,7 @@ run-cases-spec =
     (λ c. search needs)
     (λ c. search needs)
     (λ c. search needs)
-    (λ c. search needs)
-    (λ c. search needs)
     (λ c κs. search needs)
-    (λ c. search needs)
-    (λ c. search needs)
     (λ c. search needs)
     (λ c. search needs)
     (λ c. search needs)
