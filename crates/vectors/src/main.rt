@@ -29,11 +29,15 @@ fn print_line(a: Answer) {
     print(a.steps as u64, b'\n');
 }
 
-fn with_flash(body: &[u8], flash_at: usize, book: &[u8], flash: &mut [u8]) {
+fn run(book: &[u8], flash: &[u8]) {
     let mut ram = [0; BENCH_RAM];
     let mut tags = [0; BENCH_TAGS];
-    pieces::put_memory(flash, body, flash_at);
     print_line(bench::bench(book, flash, &mut ram, &mut tags));
+}
+
+fn with_flash(body: &[u8], flash_at: usize, book: &[u8], flash: &mut [u8]) {
+    pieces::put_memory(flash, body, flash_at);
+    run(book, flash);
 }
 
 fn with_book(body: &[u8], book: &mut [u8], flash: &mut [u8]) {
