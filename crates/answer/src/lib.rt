@@ -1,8 +1,11 @@
-// A start book read and, where it is accepted, run: what is told of it.
+// A start book read and, where it is accepted, run: what is told of it, with any memories, or with those of the bench.
+use asked::BUDGET;
 use told::Answer;
+use told::Refusal;
 use told::Verdict;
 ghost use mathlib.Core.Path.{_≡_};
 ghost use Rattle.asked.specs.Answer.{bookRun};
+ghost use Rattle.asked.specs.Bench.{benchOf};
 
 // The book read and, where it is accepted, run, with memories of any size and any budget.
 pub fn run_book(book: &[u8], flash: &[u8], ram: &mut [u8], tags: &mut [u8], budget: u32) -> Answer
@@ -19,4 +22,17 @@ pub fn run_book(book: &[u8], flash: &[u8], ram: &mut [u8], tags: &mut [u8], budg
             asked::answer_of(machine::run(m, flash, ram, tags, budget))
         }
     }
+}
+
+// The bench's answer in the RAM and the tags that are lent; 20, and nothing changed, where they are of another size than its own
+// or a file is too long.
+pub fn bench(book: &[u8], flash: &[u8], ram: &mut [u8], tags: &mut [u8]) -> Answer
+    ensures answer { λ r. ⌜ r ≡ benchOf (now (book .entry)) (now (flash .entry)) (now (ram .entry)) (now (tags .entry)) .answer ⌝ }
+    ensures ram { λ _. ⌜ now (ram .exit) ≡ benchOf (now (book .entry)) (now (flash .entry)) (now (ram .entry)) (now (tags .entry)) .ram ⌝ }
+    ensures tags { λ _. ⌜ now (tags .exit) ≡ benchOf (now (book .entry)) (now (flash .entry)) (now (ram .entry)) (now (tags .entry)) .tags ⌝ }
+{
+    if asked::bench_fits(book.len(), ram.len()) {
+        return run_book(book, flash, ram, tags, BUDGET);
+    }
+    told::refusing(Refusal::Sizes)
 }

@@ -51,7 +51,7 @@ fn main() {
     let flash_length = read_file(b"flash.bin", &mut flash);
     let mut ram = [0; BENCH_RAM];
     let mut tags = [0; BENCH_TAGS];
-    print_line(bench::bench(
+    print_line(answer::bench(
         &book[..book_length],
         &flash[..flash_length],
         &mut ram,

@@ -32,7 +32,7 @@ fn print_line(a: Answer) {
 fn run(book: &[u8], flash: &[u8]) {
     let mut ram = [0; BENCH_RAM];
     let mut tags = [0; BENCH_TAGS];
-    print_line(bench::bench(book, flash, &mut ram, &mut tags));
+    print_line(answer::bench(book, flash, &mut ram, &mut tags));
 }
 
 fn with_flash(body: &[u8], flash_at: usize, book: &[u8], flash: &mut [u8]) {

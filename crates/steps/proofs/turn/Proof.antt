@@ -1,7 +1,7 @@
 use Rattle.num.proofs.Calls.{asks}
 use borrow.Author.Needs.{needs}
-use Rattle.whole.proofs.turn.Statement.{statement}
-use Rattle.whole.proofs.turn.Tie as tie
+use Rattle.steps.proofs.turn.Statement.{statement}
+use Rattle.steps.proofs.turn.Tie as tie
 
 returns : tie.Need-returns
 returns c = let a = c .before .before .before .before in let f = a .before .before .before in rw (f .before .gather .ensures, f .is-pending .ensures) at (a .act .ensures)

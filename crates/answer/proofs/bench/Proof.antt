@@ -2,8 +2,8 @@ use Rattle.num.proofs.Calls.{asks}
 use mathlib.Core.Path.{refl}
 use borrow.Author.Needs.{needs}
 use Rattle.asked.specs.Bench.{benchOf}
-use Rattle.bench.proofs.bench.Statement.{statement}
-use Rattle.bench.proofs.bench.Tie as tie
+use Rattle.answer.proofs.bench.Statement.{statement}
+use Rattle.answer.proofs.bench.Tie as tie
 
 returns : tie.Need-returns
 unfolding benchOf
