@@ -12,7 +12,7 @@ pub fn run(m: Machine, flash: &[u8], ram: &mut [u8], tags: &mut [u8], budget: u3
     ensures { λ _. ⌜ now (tags .exit) ≡ runOf budget (now (flash .entry)) m (now (ram .entry)) (now (tags .entry)) .tags ⌝ }
 {
     let first = m.general[0];
-    let verdict = accept::accept(m.caps, m.pcc, m.pending, first, flash.len(), ram, tags);
+    let verdict = start::accept(m.caps, m.pcc, m.pending, first, flash.len(), ram, tags);
     match verdict {
         Verdict::Refused(refusal) => ending::refused(refusal, m),
         Verdict::Accepted => steps::go(m, flash, ram, tags, budget),

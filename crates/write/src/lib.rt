@@ -32,7 +32,7 @@ pub fn write_book(machine: Machine, ram: &[u8], tags: &[u8], out: &mut [u8]) -> 
     ensures { λ _. ⌜ now (out .exit) ≡ writeBook machine (now (ram .entry)) (now (tags .entry)) (now (out .entry)) .out ⌝ }
 {
     let first = machine.general[0];
-    let verdict = accept::accept(
+    let verdict = start::accept(
         machine.caps,
         machine.pcc,
         machine.pending,

@@ -1,7 +1,7 @@
 use Rattle.num.proofs.Calls.{asks}
 use Rattle.manual.specs.Transfer.{mayStore}
-use Rattle.transfer.proofs.may_store.Statement.{statement}
-use Rattle.transfer.proofs.may_store.Tie as tie
+use Rattle.captransfer.proofs.may_store.Statement.{statement}
+use Rattle.captransfer.proofs.may_store.Tie as tie
 
 returns : tie.Need-returns
 unfolding mayStore

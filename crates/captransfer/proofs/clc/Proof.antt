@@ -3,8 +3,8 @@ use mathlib.Core.Path.{sym, _∙_}
 use Rattle.checks.proofs.Chains.{start}
 use Rattle.manual.specs.Transfer.{cLC}
 use borrow.Author.Needs.{needs}
-use Rattle.transfer.proofs.clc.Statement.{statement}
-use Rattle.transfer.proofs.clc.Tie as tie
+use Rattle.captransfer.proofs.clc.Statement.{statement}
+use Rattle.captransfer.proofs.clc.Tie as tie
 
 returns : tie.Need-returns
 unfolding cLC

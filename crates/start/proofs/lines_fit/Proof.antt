@@ -7,10 +7,10 @@ use borrow.Author.Needs.{needs}
 use denote.Ref.{now}
 use lib.ListN.{length}
 use Rattle.num.proofs.Calls.{asks}
 use Rattle.accept.specs.Accept.{every, lineFits}
 use Rattle.accept.proofs.Scans.{begins, fails, passes, ends}
-use Rattle.accept.proofs.lines_fit.Statement.{statement}
-use Rattle.accept.proofs.lines_fit.Tie as tie
+use Rattle.start.proofs.lines_fit.Statement.{statement}
+use Rattle.start.proofs.lines_fit.Tie as tie
 
 abbrev test : List ℕ → List ℕ → ℕ → Bool
 test ram tags = lineFits ram tags

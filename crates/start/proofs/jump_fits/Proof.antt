@@ -1,7 +1,7 @@
 use Rattle.num.proofs.Calls.{asks}
 use borrow.Author.Needs.{needs}
-use Rattle.accept.proofs.jump_fits.Statement.{statement}
-use Rattle.accept.proofs.jump_fits.Tie as tie
+use Rattle.start.proofs.jump_fits.Statement.{statement}
+use Rattle.start.proofs.jump_fits.Tie as tie
 
 returns-2 : tie.Need-returns-2
 returns-2 c = rw (c .before .before .pending .given .1) (c .top-fits .ensures)

@@ -1,8 +1,8 @@
 use Rattle.num.proofs.Calls.{asks}
 use borrow.Author.Tests.{not-true, not-false}
 use Rattle.accept.specs.Accept.{verdictOf}
-use Rattle.accept.proofs.accept.Statement.{statement}
-use Rattle.accept.proofs.accept.Tie as tie
+use Rattle.start.proofs.accept.Statement.{statement}
+use Rattle.start.proofs.accept.Tie as tie
 
 returns : tie.Need-returns
 unfolding verdictOf

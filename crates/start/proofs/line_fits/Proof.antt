@@ -1,7 +1,7 @@
 use Rattle.num.proofs.Calls.{asks}
 use borrow.Author.Needs.{needs}
-use Rattle.accept.proofs.line_fits.Statement.{statement}
-use Rattle.accept.proofs.line_fits.Tie as tie
+use Rattle.start.proofs.line_fits.Statement.{statement}
+use Rattle.start.proofs.line_fits.Tie as tie
 
 returns : tie.Need-returns
 returns c = rw (← c .before .before .before .before .tag-of .ensures, c .before .before .before .if1 .taken, ← c .before .load .ensures) (c .loaded-fits .ensures)

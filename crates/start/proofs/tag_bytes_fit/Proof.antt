@@ -8,10 +8,10 @@ use denote.Ref.{now}
 use lib.Dec.{ltb}
 use lib.ListN.{length, getD}
 use borrow.Author.Tests.{lt-ltb, le-ltb}
 use Rattle.accept.specs.Accept.{every}
 use Rattle.accept.proofs.Scans.{begins, fails, passes, ends}
-use Rattle.accept.proofs.tag_bytes_fit.Statement.{statement}
-use Rattle.accept.proofs.tag_bytes_fit.Tie as tie
+use Rattle.start.proofs.tag_bytes_fit.Statement.{statement}
+use Rattle.start.proofs.tag_bytes_fit.Tie as tie
 
 abbrev test : List ℕ → ℕ → Bool
 test tags = λ i. not (ltb 1 (getD tags i 0))

@@ -3,8 +3,8 @@ use mathlib.Core.Path.{sym, _∙_}
 use Rattle.checks.proofs.Chains.{start}
 use Rattle.manual.specs.Transfer.{cSC}
 use borrow.Author.Needs.{needs}
-use Rattle.transfer.proofs.csc.Statement.{statement}
-use Rattle.transfer.proofs.csc.Tie as tie
+use Rattle.captransfer.proofs.csc.Statement.{statement}
+use Rattle.captransfer.proofs.csc.Tie as tie
 
 returns : tie.Need-returns
 unfolding cSC
