@@ -1,2 +1,3 @@
+mod Worked
 pub mod Scans
 pub mod Accepted
