@@ -9,8 +9,8 @@
  *
  * Each returns one number: 0, how the run stopped, or why your input was refused (the table below). Each answers every
  * input, with nothing left open: whatever the bytes and the lengths are, the number returned and every byte of every
- * buffer afterwards are those of a short definition (crates/asked/specs, crates/handing/specs, crates/taking/specs), and
- * that is proved for all of them. So is what is said below of the numbers returned and of the room for a book
+ * buffer afterwards are those of a short definition (Exported, Handing and Taking in crates/pages/specs), and that is
+ * proved for all of them. So is what is said below of the numbers returned and of the room for a book
  * (crates/header/specs).
  *
  * What you owe, since nothing can check it: a pointer and the length after it describe memory that is yours to lend, and a

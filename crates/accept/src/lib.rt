@@ -1,9 +1,9 @@
-// What a start must hold, and three of its tests, which books make too (01, "Stop numbers").
-use cap::Cap;
-use line::LoadedCap;
+// Three tests of a start, which books make too (01, "Stop numbers").
+use manual::Cap;
+use manual::LoadedCap;
 ghost use mathlib.Core.Path.{_≡_};
 ghost use mathlib.Core.Bool.{not, _&&_};
-ghost use Rattle.accept.specs.Accept.{sizesFit, topFits, loadedFits};
+ghost use Rattle.manual.specs.Accept.{sizesFit, topFits, loadedFits};
 
 pub fn sizes_fit(flash: usize, ram: usize, tags: usize) -> bool
     ensures { λ r. ⌜ r ≡ sizesFit flash ram tags ⌝ }

@@ -1,27 +1,16 @@
 // The test of an access through a capability: exact sums, then the address (01, "Access and fetch").
-use cap::Cap;
-use num::Address;
-use num::Offset;
-use num::Size;
+use manual::Access;
+use manual::Address;
+use manual::Cap;
+use manual::Offset;
+use manual::Size;
+use manual::Sum;
 ghost use mathlib.Core.Path.{_≡_};
 ghost use Prim.Native.Nat.{ℕ, _+_, _-_, _^_, _≤_, _<_};
 ghost use lib.Dec.{eqb};
-ghost use Rattle.num.specs.Number.{bytesIn};
-ghost use Rattle.access.specs.Sum.{net, offsetOf};
-ghost use Rattle.access.specs.Access.{sumOf, aligned, placedAt, accessOf};
-
-// An exact sum, where it is an offset: from 0 to 2^64 - 1.
-enum Sum {
-    At(Offset),
-    Outside,
-}
-
-// Where an access lies, or which test it fails.
-pub enum Access {
-    At(Address),
-    Length,
-    Misaligned,
-}
+ghost use Rattle.manual.specs.Number.{bytesIn};
+ghost use Rattle.manual.specs.Sum.{net, offsetOf};
+ghost use Rattle.manual.specs.Access.{sumOf, aligned, placedAt, accessOf};
 
 // offset + up - down.
 fn net_of(offset: u64, up: u64, down: u64) -> Sum

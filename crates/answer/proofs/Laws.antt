@@ -3,15 +3,15 @@ use Prim.Native.Nat.{ℕ}
 use mathlib.Core.Path.{_≡_, ap, _∙_}
 use mathlib.Core.List.{List}
 use lib.ListN.{length}
-use Rattle.core.specs.declared.Machine.{Machine}
-use Rattle.state.specs.declared.Outcome.{Outcome}
-use Rattle.told.specs.declared.Refusal.{Refusal}
-use Rattle.told.specs.declared.Verdict.{Verdict}
-use Rattle.enter.specs.Enter.{judged, readBook}
-use Rattle.state.specs.Run.{runOf}
-use Rattle.told.specs.declared.Answer.{Answer}
-use Rattle.told.specs.Told.{refusing}
-use Rattle.asked.specs.Answer.{Benched, answerOf, bookRun}
+use Rattle.manual.specs.declared.Machine.{Machine}
+use Rattle.manual.specs.declared.Outcome.{Outcome}
+use Rattle.manual.specs.declared.Refusal.{Refusal}
+use Rattle.manual.specs.declared.Verdict.{Verdict}
+use Rattle.pages.specs.Enter.{judged, readBook}
+use Rattle.manual.specs.Run.{runOf}
+use Rattle.manual.specs.declared.Answer.{Answer}
+use Rattle.manual.specs.Told.{refusing}
+use Rattle.pages.specs.Answer.{Benched, answerOf, bookRun}
 
 -- an answer and what RAM and tags hold then, taken together
 abbrev pub Gives : Answer → List ℕ → List ℕ → Benched → Type 0

@@ -1,11 +1,11 @@
 // A start book read and, where it is accepted, run: what is told of it, with any memories, or with those of the bench.
 use asked::BUDGET;
-use told::Answer;
-use told::Refusal;
-use told::Verdict;
+use manual::Answer;
+use manual::Refusal;
+use manual::Verdict;
 ghost use mathlib.Core.Path.{_≡_};
-ghost use Rattle.asked.specs.Answer.{bookRun};
-ghost use Rattle.asked.specs.Bench.{benchOf};
+ghost use Rattle.pages.specs.Answer.{bookRun};
+ghost use Rattle.pages.specs.Bench.{benchOf};
 
 // The book read and, where it is accepted, run, with memories of any size and any budget.
 pub fn run_book(book: &[u8], flash: &[u8], ram: &mut [u8], tags: &mut [u8], budget: u32) -> Answer

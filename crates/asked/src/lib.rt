@@ -1,10 +1,10 @@
-// What is asked of a start book, that it be read and run, also by the bench and from C: the definitions, and the functions that make no run.
-use num::LINE;
-use state::Outcome;
-use told::Answer;
+// What the bench asks of a book and its RAM, and what is told of a run.
+use manual::Answer;
+use manual::LINE;
+use manual::Outcome;
 ghost use mathlib.Core.Path.{_≡_};
-ghost use Rattle.asked.specs.Answer.{answerOf};
-ghost use Rattle.asked.specs.Bench.{benchFits, benchNumbers};
+ghost use Rattle.pages.specs.Answer.{answerOf};
+ghost use Rattle.pages.specs.Bench.{benchFits, benchNumbers};
 
 // What is told of a run.
 pub fn answer_of(o: Outcome) -> Answer

@@ -1,17 +1,11 @@
 // A start book, walked by a reader from record to record: the first that is faulty decides (01, "The start book").
-use record::Entry;
-use record::Head;
-use told::Refusal;
-use told::Verdict;
+use manual::Refusal;
+use manual::Verdict;
+use pages::Entry;
+use pages::Head;
+use pages::Step;
 ghost use mathlib.Core.Path.{_≡_};
-ghost use Rattle.book.specs.Book.{kindOf, keyOf, inOrder, orderedStep, afterEntry, stepAt, checkBook};
-
-// One record of the walk: the end, a refusal, or what the record says and where it ends.
-pub enum Step {
-    Done,
-    Refused(Refusal),
-    More(usize, Entry),
-}
+ghost use Rattle.pages.specs.Book.{kindOf, keyOf, inOrder, orderedStep, afterEntry, stepAt, checkBook};
 
 // The kind of a record.
 pub fn kind_of(entry: Entry) -> u8

@@ -2,9 +2,9 @@
 // (`second-cases 1 2700 OUT books`): of each case a length of 4 bytes and its body, laid out as second/src/generate/format.rs
 // says. A book to read gives REFUSAL MACHINE RAM TAGS; a book to write gives REFUSAL LENGTH OUT and, where one was written,
 // what reading exactly its bytes gives. All but REFUSAL and LENGTH are checksums, as second/src/generate/answers.rs says.
-use enter::Started;
 use libc::STDOUT_FILENO;
-use told::Written;
+use manual::Written;
+use pages::Started;
 ghost use mathlib.Core.Path.{_≡_};
 ghost use lib.ListN.{length};
 
@@ -103,7 +103,7 @@ fn read_back_in(book: &[u8], body: &[u8], tags_at: usize, ram: &mut [u8]) {
 // Reads a written book over memories of this case's sizes, full of other bytes.
 fn read_back(book: &[u8], body: &[u8], tags_at: usize) {
     let mut ram = memory(0xDD);
-    let n = pieces::size_in(body, tables::machine_end(body, FIRST), &ram);
+    let n = pieces::size_in(body, machines::machine_end(body, FIRST), &ram);
     read_back_in(book, body, tags_at, &mut ram[..n]);
 }
 
@@ -121,7 +121,7 @@ fn print_written(written: Written, out: &[u8], body: &[u8], tags_at: usize) {
 }
 
 fn write_book(body: &[u8], ram: &[u8], tags: &[u8], out: &mut [u8]) -> Written {
-    write::write_book(tables::machine_in(body, FIRST), ram, tags, out)
+    write::write_book(machines::machine_in(body, FIRST), ram, tags, out)
 }
 
 fn write_with_out(
@@ -156,7 +156,7 @@ fn write_over(body: &[u8], ram_at: usize, ram: &mut [u8], out: &mut [u8]) {
 
 // Writes the book of this case to a buffer that takes its size of this space.
 fn write_case(body: &[u8], out: &mut [u8]) {
-    let ram_at = tables::machine_end(body, FIRST);
+    let ram_at = machines::machine_end(body, FIRST);
     let mut ram = memory(0);
     let n = pieces::size_in(body, ram_at, &ram);
     write_over(body, ram_at, &mut ram[..n], out);

@@ -5,8 +5,8 @@ use mathlib.Core.Bool.{Bool, true, false}
 use native.Mathlib.Omega.{arith}
 use borrow.Author.Tests.{lt-ltb, le-ltb, le-leb, lt-leb, leb-true, leb-false}
 use lib.Dec.{leb}
-use Rattle.num.specs.Number.{movedBy}
-use Rattle.num.specs.declared.Offset.{Offset}
+use Rattle.manual.specs.Number.{movedBy}
+use Rattle.manual.specs.declared.Offset.{Offset}
 use Rattle.manual.specs.Branch.{bytesOff, branchOffset, notPast}
 
 -- from the slot, and then by the count

@@ -1,16 +1,16 @@
 // Branches: BEQ, BNE, CBTU and CBTS.
-use cap::Cap;
-use checks::Check;
-use checks::Effect;
-use checks::LENGTH;
-use checks::NO_REGISTER;
-use checks::Named;
-use checks::Planned;
-use num::Offset;
+use manual::Cap;
+use manual::Check;
+use manual::Effect;
+use manual::LENGTH;
+use manual::NO_REGISTER;
+use manual::Named;
+use manual::Offset;
+use manual::Planned;
 ghost use mathlib.Core.Path.{_≡_};
 ghost use Prim.Native.Nat.{_+_};
 ghost use lib.Dec.{leb};
-ghost use Rattle.checks.specs.Checks.{settle};
+ghost use Rattle.manual.specs.Checks.{settle};
 ghost use Rattle.manual.specs.Branch.{wanted, bytesOff, branchOffset, branchTo, notPast, branch, branchTag};
 
 // Whether the branch is taken: its test came out as it wants.

@@ -4,7 +4,7 @@ use mathlib.Core.Path.{_≡_}
 use mathlib.Core.Bool.{false}
 use native.Mathlib.Nat.{div-eq-of-lt, lt-of-lt-of-le}
 use lib.Pow.{pow-mono}
-use Rattle.cap.specs.Cap.{permitted}
+use Rattle.manual.specs.Cap.{permitted}
 
 -- no number from 32 on is granted
 pub none-past : (perms number : ℕ) → perms < 2 ^ 32 → 32 ≤ number → false ≡ permitted perms number

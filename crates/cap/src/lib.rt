@@ -1,21 +1,9 @@
-// Capabilities as values: fields, permissions and the registers they open (004, chapter 3).
-use num::Address;
-use num::Offset;
+// The permissions of a capability, and the registers they open (004, chapter 3).
+use manual::Address;
 ghost use mathlib.Core.Path.{_≡_};
 ghost use Prim.Native.Nat.{_+_, _^_};
 ghost use lib.Dec.{ltb};
-ghost use Rattle.cap.specs.Cap.{permissionTable, permitted, inWidths, accessBit, registerOpen};
-
-pub struct Cap {
-    pub base: Address,
-    pub length: u64,
-    pub offset: Offset,
-    pub perms: u32,
-    pub otype: u32,
-    pub spare: u8,
-    pub tag: bool,
-    pub sealed: bool,
-}
+ghost use Rattle.manual.specs.Cap.{permissionTable, permitted, inWidths, accessBit, registerOpen};
 
 pub const GLOBAL: u32 = 0;
 

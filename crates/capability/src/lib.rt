@@ -1,9 +1,9 @@
 // Words of major opcode 18: the capability instructions.
-use isa::Compare;
-use isa::Field;
-use isa::Instr;
+use manual::Compare;
+use manual::Field;
+use manual::Instr;
 ghost use mathlib.Core.Path.{_≡_};
-ghost use Rattle.isa.specs.Decode.{decoded, kinds, numbers, unused, capabilityWord};
+ghost use Rattle.manual.specs.Decode.{decoded, kinds, numbers, unused, capabilityWord};
 
 // CPtrCmp by its kind.
 fn ptr_compare(kind: u32) -> Instr

@@ -2,7 +2,7 @@
 use Prim.Native.Nat.{ℕ}
 use mathlib.Core.Path.{refl}
 use mathlib.Core.List.{List}
-use Rattle.checks.specs.declared.Planned.{Planned}
+use Rattle.manual.specs.declared.Planned.{Planned}
 use Rattle.manual.specs.declared.Operands.{Operands}
 use Rattle.manual.specs.Perform.{turnOf, ramOf, tagsOf}
 use Rattle.deriving.specs.declared.Capable.{Capable}

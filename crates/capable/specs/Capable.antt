@@ -2,10 +2,10 @@
 use Prim.Native.Nat.{ℕ}
 use mathlib.Core.Path.{_≡_}
 use mathlib.Core.List.{List}
-use Rattle.cap.specs.declared.Cap.{Cap}
-use Rattle.isa.specs.declared.Instr.{Instr}
-use Rattle.checks.specs.declared.Named.{Named}
-use Rattle.checks.specs.Checks.{settle}
+use Rattle.manual.specs.declared.Cap.{Cap}
+use Rattle.manual.specs.declared.Instr.{Instr}
+use Rattle.manual.specs.declared.Named.{Named}
+use Rattle.manual.specs.Checks.{settle}
 use Rattle.manual.specs.declared.Operands.{Operands}
 use Rattle.manual.specs.Plan.{planOf}
 use Rattle.deriving.specs.declared.Capable.{Capable}

@@ -1,10 +1,10 @@
 // Instructions that look at capability registers and write a register or the memory, carried out on the values that their words
 // name.
-use cap::Cap;
-use checks::Named;
 use deriving::Capable;
+use manual::Cap;
+use manual::Named;
 ghost use mathlib.Core.Path.{_≡_};
-ghost use Rattle.isa.specs.Decode.{decodeWord};
+ghost use Rattle.manual.specs.Decode.{decodeWord};
 ghost use Rattle.capable.specs.Capable.{Capably};
 
 // What the word's instruction writes, on the registers at 25..21, 20..16, 15..11 and 10..6: told by its major opcode.

@@ -1,14 +1,14 @@
 // Capability stores: the line's 32 bytes and its tag.
-use cap::Cap;
-use mem::Place;
-use num::Address;
-use num::LINE;
-use store::Stored;
+use manual::Address;
+use manual::Cap;
+use manual::LINE;
+use manual::Place;
+use manual::Stored;
 ghost use mathlib.Core.Path.{_≡_};
 ghost use lib.ListN.{length};
-ghost use Rattle.mem.specs.Place.{placeOf};
-ghost use Rattle.store.specs.Store.{answerAt, ramAfter, tagsAfter};
-ghost use Rattle.line.specs.Line.{firstWord, encode};
+ghost use Rattle.manual.specs.Place.{placeOf};
+ghost use Rattle.manual.specs.Store.{answerAt, ramAfter, tagsAfter};
+ghost use Rattle.manual.specs.Line.{firstWord, encode};
 
 // From the top: spare, otype, permissions, sealed, each in its width.
 fn first_word(c: Cap) -> u64
@@ -49,7 +49,7 @@ pub fn store(flash: usize, ram: &mut [u8], tags: &mut [u8], a: Address, c: Cap) 
         Place::Ram(at) => {
             let e = at + LINE;
             write_line(&mut ram[at..e], c);
-            store::with_tag(tags, at / LINE, c.tag);
+            tags::with_tag(tags, at / LINE, c.tag);
             Stored::Done
         }
     }

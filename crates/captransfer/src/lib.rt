@@ -1,17 +1,17 @@
 // Loads and stores of capabilities through a capability: CLC and CSC (004, chapter 4).
-use access::Access;
-use cap::Cap;
-use checks::Check;
-use checks::Effect;
-use checks::Fault;
-use checks::LENGTH;
-use checks::Named;
-use checks::Planned;
-use num::Size;
+use manual::Access;
+use manual::Cap;
+use manual::Check;
+use manual::Effect;
+use manual::Fault;
+use manual::LENGTH;
+use manual::Named;
+use manual::Planned;
+use manual::Size;
 ghost use mathlib.Core.Path.{_≡_};
 ghost use mathlib.Core.Bool.{Bool, _||_, not};
-ghost use Rattle.cap.specs.Cap.{permits, GLOBAL, STORE-LOCAL};
-ghost use Rattle.checks.specs.Checks.{settle};
+ghost use Rattle.manual.specs.Cap.{permits, GLOBAL, STORE-LOCAL};
+ghost use Rattle.manual.specs.Checks.{settle};
 ghost use Rattle.manual.specs.Transfer.{mayStore, cLC, cSC};
 
 pub fn clc(immediate: u64, pcc: Cap, cd: u8, cb: Named, rt: u64) -> Planned

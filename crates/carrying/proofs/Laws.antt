@@ -3,26 +3,26 @@ use Prim.Native.Nat.{ℕ}
 use mathlib.Core.Path.{_≡_, refl, sym, _∙_}
 use mathlib.Core.Bool.{Bool, true, false, not, _&&_, _||_}
 use mathlib.Core.List.{List}
-use Rattle.num.specs.declared.Address.{Address}
-use Rattle.mem.specs.declared.Place.{Place}
-use Rattle.mem.specs.declared.Place.the-variants.{Flash, Ram, Nowhere}
-use Rattle.store.specs.Store.{answerAt, ramAfter, tagsAfter}
-use Rattle.cap.specs.declared.Cap.{Cap}
-use Rattle.cap.specs.Cap.{LOAD-CAPABILITY, STORE-CAPABILITY, STORE-LOCAL, GLOBAL, permits, registerOpen}
-use Rattle.line.specs.declared.LoadedCap.{LoadedCap}
-use Rattle.line.specs.Line.{encode, loadCap}
-use Rattle.access.specs.declared.Access.{Access}
-use Rattle.checks.specs.declared.Named.{Named}
-use Rattle.checks.specs.declared.Fault.{Fault}
-use Rattle.checks.specs.declared.Effect.{Effect}
-use Rattle.checks.specs.declared.Planned.{Planned}
-use Rattle.checks.specs.Checks.{Checked, guard, settle}
+use Rattle.manual.specs.declared.Address.{Address}
+use Rattle.manual.specs.declared.Place.{Place}
+use Rattle.manual.specs.declared.Place.the-variants.{Flash, Ram, Nowhere}
+use Rattle.manual.specs.Store.{answerAt, ramAfter, tagsAfter}
+use Rattle.manual.specs.declared.Cap.{Cap}
+use Rattle.manual.specs.Cap.{LOAD-CAPABILITY, STORE-CAPABILITY, STORE-LOCAL, GLOBAL, permits, registerOpen}
+use Rattle.manual.specs.declared.LoadedCap.{LoadedCap}
+use Rattle.manual.specs.Line.{encode, loadCap}
+use Rattle.manual.specs.declared.Access.{Access}
+use Rattle.manual.specs.declared.Named.{Named}
+use Rattle.manual.specs.declared.Fault.{Fault}
+use Rattle.manual.specs.declared.Effect.{Effect}
+use Rattle.manual.specs.declared.Planned.{Planned}
+use Rattle.manual.specs.Checks.{Checked, guard, settle}
 use Rattle.manual.specs.Transfer.{cLC, cSC, mayStore}
 use Rattle.manual.specs.declared.Operands.{Operands}
 use Rattle.manual.specs.Perform.{turnOf, ramOf, tagsOf}
-use Rattle.mem.specs.Place.{placeIn}
+use Rattle.manual.specs.Place.{placeIn}
 use Rattle.data.specs.Data.{Reaches}
-use Rattle.checks.proofs.Tests.{both-true}
+use Rattle.manual.proofs.Tests.{both-true}
 use Rattle.data.proofs.Reaches.{planned-at, planned-reached}
 use Rattle.deriving.specs.Deriving.{putsStored}
 use Rattle.special.specs.Special.{Amounts}

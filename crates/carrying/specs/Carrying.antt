@@ -3,18 +3,18 @@ use Prim.Native.Nat.{ℕ}
 use mathlib.Core.Path.{_≡_}
 use mathlib.Core.Bool.{Bool, cond}
 use mathlib.Core.List.{List}
-use Rattle.store.specs.declared.Stored.{Stored}
-use Rattle.store.specs.Store.{answerAt, ramAfter, tagsAfter}
-use Rattle.cap.specs.declared.Cap.{Cap}
-use Rattle.line.specs.declared.LoadedCap.{LoadedCap}
-use Rattle.line.specs.Line.{encode, loadCap}
-use Rattle.access.specs.declared.Access.{Access}
-use Rattle.isa.specs.declared.Instr.{Instr}
-use Rattle.checks.specs.declared.Named.{Named}
-use Rattle.checks.specs.Checks.{settle}
+use Rattle.manual.specs.declared.Stored.{Stored}
+use Rattle.manual.specs.Store.{answerAt, ramAfter, tagsAfter}
+use Rattle.manual.specs.declared.Cap.{Cap}
+use Rattle.manual.specs.declared.LoadedCap.{LoadedCap}
+use Rattle.manual.specs.Line.{encode, loadCap}
+use Rattle.manual.specs.declared.Access.{Access}
+use Rattle.manual.specs.declared.Instr.{Instr}
+use Rattle.manual.specs.declared.Named.{Named}
+use Rattle.manual.specs.Checks.{settle}
 use Rattle.manual.specs.declared.Operands.{Operands}
 use Rattle.manual.specs.Plan.{planOf}
-use Rattle.mem.specs.Place.{placeIn}
+use Rattle.manual.specs.Place.{placeIn}
 use Rattle.deriving.specs.declared.Capable.{Capable}
 use Rattle.special.specs.Special.{Amounts}
 

@@ -1,11 +1,11 @@
 // CLC and CSC through a capability register, carried out on the values that their words name.
-use access::Access;
-use cap::Cap;
-use checks::Named;
 use deriving::Capable;
-use line::LoadedCap;
-use num::Size;
-use store::Stored;
+use manual::Access;
+use manual::Cap;
+use manual::LoadedCap;
+use manual::Named;
+use manual::Size;
+use manual::Stored;
 ghost use mathlib.Core.Path.{_≡_};
 ghost use Rattle.carrying.specs.Carrying.{putsLine, heldWhere, lineAt, lineStored, lineRam, lineTags, LoadsLine, StoresLine};
 

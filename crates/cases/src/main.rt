@@ -2,7 +2,7 @@
 // of 4 bytes and its body, laid out as second/src/generate/format.rs says. A case's line is STOP CAUSE REGISTER PLACE
 // STEPS MACHINE RAM TAGS, the last three checksums, as second/src/generate/answers.rs says.
 use libc::STDOUT_FILENO;
-use state::Outcome;
+use manual::Outcome;
 ghost use mathlib.Core.Path.{_≡_};
 ghost use lib.ListN.{length};
 
@@ -35,7 +35,13 @@ fn print_outcome(o: Outcome) {
 
 fn run(body: &[u8], flash: &[u8], ram: &mut [u8], tags: &mut [u8]) {
     let budget = tables::number_4(body, 1);
-    print_outcome(machine::run(tables::machine_in(body, MACHINE), flash, ram, tags, budget));
+    print_outcome(machine::run(
+        machines::machine_in(body, MACHINE),
+        flash,
+        ram,
+        tags,
+        budget,
+    ));
 }
 
 fn run_in(body: &[u8], tags_at: usize, flash: &[u8], ram: &mut [u8], tags: &mut [u8]) {
@@ -65,7 +71,7 @@ fn with_flash(body: &[u8], flash_at: usize, flash: &mut [u8]) {
 
 // Runs the case of this body, whose flash takes its size of this space.
 fn run_case(body: &[u8], flash: &mut [u8]) {
-    let flash_at = tables::machine_end(body, MACHINE);
+    let flash_at = machines::machine_end(body, MACHINE);
     let n = pieces::size_in(body, flash_at, flash);
     with_flash(body, flash_at, &mut flash[..n]);
 }

@@ -1,73 +1,16 @@
 // Checks before an effect: made one after the other on values; the first that fails decides.
-use cap::Cap;
-use num::Address;
-use num::Size;
+use manual::Check;
+use manual::Effect;
+use manual::Fault;
+use manual::Named;
+use manual::Planned;
+use manual::SEAL;
+use manual::TAG;
 ghost use mathlib.Core.Path.{_≡_};
 ghost use mathlib.Core.Bool.{Bool, _&&_, _||_, not};
 ghost use Prim.Native.Nat.{ℕ, _+_};
-ghost use Rattle.cap.specs.Cap.{permits, accessBit, registerOpen};
-ghost use Rattle.checks.specs.Checks.{Guards, ok, fail, finish, stopNumber, lacking, TAG, SEAL};
-
-// A capability register that a word names, and what it holds.
-pub struct Named {
-    pub cap: Cap,
-    pub number: u8,
-}
-
-// Why a step stops.
-pub enum Fault {
-    Raise(u8, u8),
-    Misaligned,
-    StoreMisaligned,
-    Reserved,
-    Nowhere,
-    IntoFlash,
-    Pending,
-    Break,
-}
-
-// The one thing that an instruction does.
-pub enum Effect {
-    Nothing,
-    General(u8, u64),
-    Capability(u8, Cap),
-    Cause(u16),
-    Jump(Cap),
-    Link(u8, Cap, Cap),
-    Load(Size, bool, Address, u8),
-    Store(Size, Address, u64),
-    LoadCapability(Address, u8),
-    StoreCapability(Address, Cap),
-}
-
-pub enum Planned {
-    Does(Effect),
-    Fails(Fault),
-}
-
-// The checks made so far.
-pub enum Check {
-    Passed,
-    Failed(Fault),
-}
-
-// Table 3.3 of 004.
-pub const LENGTH: u8 = 1;
-
-pub const TAG: u8 = 2;
-
-pub const SEAL: u8 = 3;
-
-pub const TYPE: u8 = 4;
-
-pub const CALL: u8 = 5;
-
-pub const RETURN: u8 = 6;
-
-pub const USER: u8 = 8;
-
-// What an exception that names no register, or PCC, reports.
-pub const NO_REGISTER: u8 = 255;
+ghost use Rattle.manual.specs.Cap.{permits, accessBit, registerOpen};
+ghost use Rattle.manual.specs.Checks.{Guards, ok, fail, finish, stopNumber, lacking, TAG, SEAL};
 
 pub fn stop_number(fault: Fault) -> u8
     ensures { λ r. ⌜ r ≡ stopNumber fault ⌝ }

@@ -1,12 +1,12 @@
 // CPtrCmp (004).
-use cap::Cap;
-use checks::Check;
-use checks::Effect;
-use checks::Named;
-use checks::Planned;
-use isa::Compare;
+use manual::Cap;
+use manual::Check;
+use manual::Compare;
+use manual::Effect;
+use manual::Named;
+use manual::Planned;
 ghost use mathlib.Core.Path.{_≡_};
-ghost use Rattle.checks.specs.Checks.{settle};
+ghost use Rattle.manual.specs.Checks.{settle};
 ghost use Rattle.manual.specs.Compare.{sameBool, isEqual, isLess, isLessSigned, compares, cPtrCmp};
 
 fn same(a: bool, b: bool) -> bool

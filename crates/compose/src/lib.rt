@@ -1,12 +1,12 @@
 // The records of a start book as its writer spells them: whether there is one, and that of a line (01, "The start book").
-use cap::Cap;
+use manual::Cap;
 ghost use mathlib.Core.Path.{_≡_};
 ghost use mathlib.Core.Bool.{Bool};
 ghost use Prim.Native.Nat.{ℕ, _+_};
 ghost use lib.ListN.{length};
 ghost use lib.Dec.{leb};
-ghost use Rattle.store.specs.Store.{put};
-ghost use Rattle.compose.specs.Compose.{recordOf, lineBody, zeroCap, zeroBytes};
+ghost use Rattle.manual.specs.Store.{put};
+ghost use Rattle.pages.specs.Compose.{recordOf, lineBody, zeroCap, zeroBytes};
 
 // The bytes of a record of kind 3 before the line's own.
 pub const LINE_HEAD: usize = 12;
@@ -79,7 +79,7 @@ pub fn put_line(out: &mut [u8], at: usize, address: u64, tag: bool, bytes: &[u8]
         store::put_be(out, at, 2, (10 + n) as u64);
         store::put_be(out, at + 2, 1, 3);
         store::put_be(out, at + 3, 8, address);
-        store::put_be(out, at + 11, 1, store::tag_byte(tag) as u64);
+        store::put_be(out, at + 11, 1, tags::tag_byte(tag) as u64);
         put_bytes(out, at + 12, bytes);
     }
 }

@@ -1,8 +1,8 @@
 // The arithmetic of the MIPS instructions, on 64 bits.
-use isa::Alu;
+use manual::Alu;
 ghost use mathlib.Core.Path.{_≡_};
-ghost use Rattle.store.specs.Store.{bit};
-ghost use Rattle.compute.specs.Compute.{signedLess, computeOf};
+ghost use Rattle.manual.specs.Store.{bit};
+ghost use Rattle.manual.specs.Compute.{signedLess, computeOf};
 
 // Whether a is below b as signed numbers: both are moved up by 2^63.
 pub fn signed_less(a: u64, b: u64) -> bool

@@ -5,21 +5,21 @@ use mathlib.Core.Bool.{Bool, true, false, not, _&&_}
 use native.Mathlib.Omega.{arith}
 use borrow.Author.Tests.{ltb-true, ltb-false}
 use lib.Dec.{ltb}
-use Rattle.num.specs.declared.Address.{Address}
-use Rattle.num.specs.declared.Size.{Size}
-use Rattle.num.specs.Number.{bytesIn}
-use Rattle.cap.specs.declared.Cap.{Cap}
-use Rattle.access.specs.declared.Access.{Access}
-use Rattle.cap.specs.Cap.{permits}
-use Rattle.access.specs.Access.{sumOf, aligned, placedAt, placedFrom, accessOf}
-use Rattle.access.proofs.Sums.{net-at, up-up, up-down, fitting, sum-in, answer}
-use Rattle.checks.specs.declared.Named.{Named}
-use Rattle.checks.specs.declared.Fault.{Fault}
-use Rattle.checks.specs.declared.Effect.{Effect}
-use Rattle.checks.specs.declared.Planned.{Planned}
-use Rattle.checks.specs.Checks.{settle, opened, tagged, unsealed, granted}
+use Rattle.manual.specs.declared.Address.{Address}
+use Rattle.manual.specs.declared.Size.{Size}
+use Rattle.manual.specs.Number.{bytesIn}
+use Rattle.manual.specs.declared.Cap.{Cap}
+use Rattle.manual.specs.declared.Access.{Access}
+use Rattle.manual.specs.Cap.{permits}
+use Rattle.manual.specs.Access.{sumOf, aligned, placedAt, placedFrom, accessOf}
+use Rattle.manual.proofs.Sums.{net-at, up-up, up-down, fitting, sum-in, answer}
+use Rattle.manual.specs.declared.Named.{Named}
+use Rattle.manual.specs.declared.Fault.{Fault}
+use Rattle.manual.specs.declared.Effect.{Effect}
+use Rattle.manual.specs.declared.Planned.{Planned}
+use Rattle.manual.specs.Checks.{settle, opened, tagged, unsealed, granted}
 use Rattle.manual.specs.Transfer.{lies}
-use Rattle.checks.proofs.Tests.{both-true}
+use Rattle.manual.proofs.Tests.{both-true}
 use Rattle.data.specs.Data.{Lands, Reaches, Reached}
 
 pub planned-at : (r : Access) (register : ℕ) (misaligned : Fault) (effect : Address → Effect) (a : Address) → r ≡ Access.At a → settle (lies r register misaligned effect) ≡ Planned.Does (effect a)

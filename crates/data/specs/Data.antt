@@ -3,19 +3,19 @@ use Prim.Native.Nat.{ℕ}
 use mathlib.Core.Path.{_≡_}
 use mathlib.Core.Bool.{Bool, false}
 use mathlib.Core.List.{List}
-use Rattle.num.specs.declared.Address.{Address}
-use Rattle.num.specs.declared.Size.{Size}
-use Rattle.mem.specs.declared.Loaded.{Loaded}
-use Rattle.store.specs.declared.Stored.{Stored}
-use Rattle.num.specs.Number.{bytesIn, toBe, extended}
-use Rattle.mem.specs.Place.{loadOf, placeIn}
-use Rattle.store.specs.Store.{answerAt, ramAfter, tagsAfter}
-use Rattle.cap.specs.declared.Cap.{Cap}
-use Rattle.cap.specs.Cap.{registerOpen}
-use Rattle.access.specs.declared.Access.{Access}
-use Rattle.access.specs.Access.{accessOf}
-use Rattle.checks.specs.declared.Named.{Named}
-use Rattle.checks.specs.Checks.{Checked, settle, opened, tagged, unsealed, granted}
+use Rattle.manual.specs.declared.Address.{Address}
+use Rattle.manual.specs.declared.Size.{Size}
+use Rattle.manual.specs.declared.Loaded.{Loaded}
+use Rattle.manual.specs.declared.Stored.{Stored}
+use Rattle.manual.specs.Number.{bytesIn, toBe, extended}
+use Rattle.manual.specs.Place.{loadOf, placeIn}
+use Rattle.manual.specs.Store.{answerAt, ramAfter, tagsAfter}
+use Rattle.manual.specs.declared.Cap.{Cap}
+use Rattle.manual.specs.Cap.{registerOpen}
+use Rattle.manual.specs.declared.Access.{Access}
+use Rattle.manual.specs.Access.{accessOf}
+use Rattle.manual.specs.declared.Named.{Named}
+use Rattle.manual.specs.Checks.{Checked, settle, opened, tagged, unsealed, granted}
 
 -- where an access lies, if the answer says so
 abbrev pub Lands : Access → Access → Type 0

@@ -1,13 +1,13 @@
 // Data loads and stores through a capability: where one lies, what it loads, what it leaves.
-use access::Access;
-use cap::Cap;
-use mem::Loaded;
-use num::Address;
-use num::Size;
-use store::Stored;
+use manual::Access;
+use manual::Address;
+use manual::Cap;
+use manual::Loaded;
+use manual::Size;
+use manual::Stored;
 ghost use mathlib.Core.Path.{_≡_};
-ghost use Rattle.num.specs.Number.{bytesIn};
-ghost use Rattle.access.specs.Access.{accessOf};
+ghost use Rattle.manual.specs.Number.{bytesIn};
+ghost use Rattle.manual.specs.Access.{accessOf};
 ghost use Rattle.data.specs.Data.{Lands, Reached, extendedIn, loadedAt, storedAt, storesRam, storesTags};
 
 // Below it four numbers sum without a carry out of 64 bits.

@@ -1,9 +1,9 @@
 // The instruction that a word is (01, "Instructions").
-use isa::Alu;
-use isa::Instr;
-use num::Size;
+use manual::Alu;
+use manual::Instr;
+use manual::Size;
 ghost use mathlib.Core.Path.{_≡_};
-ghost use Rattle.isa.specs.Decode.{decoded, operations, specialWord, codedSize, loadWord, storeWord, decodeWord};
+ghost use Rattle.manual.specs.Decode.{decoded, operations, specialWord, codedSize, loadWord, storeWord, decodeWord};
 
 // The operation of a function of major opcode 0.
 fn operation(function: u32) -> Instr

@@ -1,15 +1,15 @@
 // The instructions that derive a capability from another (004, chapter 4): every check in the page's order, then the effect.
-use cap::Cap;
-use checks::Check;
-use checks::Effect;
-use checks::LENGTH;
-use checks::Named;
-use checks::Planned;
-use checks::SEAL;
-use checks::TAG;
-use num::Offset;
+use manual::Cap;
+use manual::Check;
+use manual::Effect;
+use manual::LENGTH;
+use manual::Named;
+use manual::Offset;
+use manual::Planned;
+use manual::SEAL;
+use manual::TAG;
 ghost use mathlib.Core.Path.{_≡_};
-ghost use Rattle.checks.specs.Checks.{settle};
+ghost use Rattle.manual.specs.Checks.{settle};
 ghost use Rattle.manual.specs.Derive.{cGetPCC, cAndPerm, cClearTag, cIncBase, cSetLen, cSetOffset, cIncOffset, cFromPtr};
 
 pub fn get_pcc(pcc: Cap, cd: u8) -> Planned

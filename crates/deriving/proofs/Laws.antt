@@ -4,20 +4,20 @@ use mathlib.Core.Path.{_≡_, refl, sym, _∙_}
 use mathlib.Core.Bool.{Bool, true, false, not, _&&_}
 use lib.Dec.{eqb, leb}
 use borrow.Author.Tests.{not-true}
-use Rattle.cap.specs.declared.Cap.{Cap}
-use Rattle.cap.specs.Cap.{registerOpen}
-use Rattle.narrow.specs.Narrow.{andPerms, clearTag, incBase, setLength, setOffset, incOffset}
-use Rattle.isa.specs.declared.Instr.{Instr}
-use Rattle.isa.specs.Word.{below}
-use Rattle.isa.specs.Decode.{ifZero}
-use Rattle.checks.specs.declared.Named.{Named}
-use Rattle.checks.specs.declared.Effect.{Effect}
-use Rattle.checks.specs.declared.Planned.{Planned}
-use Rattle.checks.specs.Checks.{settle}
+use Rattle.manual.specs.declared.Cap.{Cap}
+use Rattle.manual.specs.Cap.{registerOpen}
+use Rattle.manual.specs.Narrow.{andPerms, clearTag, incBase, setLength, setOffset, incOffset}
+use Rattle.manual.specs.declared.Instr.{Instr}
+use Rattle.manual.specs.Word.{below}
+use Rattle.manual.specs.Decode.{ifZero}
+use Rattle.manual.specs.declared.Named.{Named}
+use Rattle.manual.specs.declared.Effect.{Effect}
+use Rattle.manual.specs.declared.Planned.{Planned}
+use Rattle.manual.specs.Checks.{settle}
 use Rattle.manual.specs.Derive.{cAndPerm, cClearTag, cIncBase, cSetLen, cSetOffset, cIncOffset}
 use Rattle.manual.specs.declared.Operands.{Operands}
 use Rattle.manual.specs.Plan.{planOf}
-use Rattle.checks.proofs.Tests.{both-true}
+use Rattle.manual.proofs.Tests.{both-true}
 use Rattle.deriving.specs.Deriving.{putsWhere, Leads}
 
 -- an answer that asks for its checks, of an instruction whose unused field is tested first

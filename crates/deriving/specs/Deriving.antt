@@ -2,13 +2,13 @@
 use Prim.Native.Nat.{ℕ}
 use mathlib.Core.Path.{_≡_}
 use mathlib.Core.Bool.{Bool, cond}
-use Rattle.store.specs.declared.Stored.{Stored}
-use Rattle.cap.specs.declared.Cap.{Cap}
-use Rattle.isa.specs.Decode.{capabilityWord}
-use Rattle.checks.specs.declared.Named.{Named}
-use Rattle.checks.specs.declared.Effect.{Effect}
-use Rattle.checks.specs.declared.Planned.{Planned}
-use Rattle.checks.specs.Checks.{settle}
+use Rattle.manual.specs.declared.Stored.{Stored}
+use Rattle.manual.specs.declared.Cap.{Cap}
+use Rattle.manual.specs.Decode.{capabilityWord}
+use Rattle.manual.specs.declared.Named.{Named}
+use Rattle.manual.specs.declared.Effect.{Effect}
+use Rattle.manual.specs.declared.Planned.{Planned}
+use Rattle.manual.specs.Checks.{settle}
 use Rattle.manual.specs.declared.Operands.{Operands}
 use Rattle.manual.specs.Plan.{planOf}
 use Rattle.deriving.specs.declared.Capable.{Capable}

@@ -1,8 +1,8 @@
 // Instructions that derive a capability register from the one at 15..11, carried out on the values that their words name.
-use cap::Cap;
-use checks::Named;
-use num::Offset;
-use store::Stored;
+use manual::Cap;
+use manual::Named;
+use manual::Offset;
+use manual::Stored;
 ghost use mathlib.Core.Path.{_≡_};
 ghost use Rattle.deriving.specs.Deriving.{putsWhere, putsStored, Derives};
 

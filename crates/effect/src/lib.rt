@@ -1,14 +1,14 @@
 // The one effect of an instruction whose checks have passed, carried out.
-use cap::Cap;
-use checks::Effect;
-use checks::Fault;
-use core::Pending;
-use line::LoadedCap;
+use manual::Cap;
 use manual::Change;
+use manual::Effect;
+use manual::Fault;
+use manual::Loaded;
+use manual::LoadedCap;
+use manual::Pending;
+use manual::Size;
+use manual::Stored;
 use manual::Turn;
-use mem::Loaded;
-use num::Size;
-use store::Stored;
 ghost use mathlib.Core.Path.{_≡_};
 ghost use Rattle.manual.specs.Perform.{toGeneral, toCapability, loadedTurn, storedTurn, capTurn, turnOf, ramOf, tagsOf};
 

@@ -1,13 +1,13 @@
 // How a run ends: the record of a stop, of a spent budget, of a refusal.
-use cap::Cap;
-use checks::Fault;
-use core::Machine;
-use core::Pending;
-use state::Outcome;
-use told::Refusal;
+use manual::Cap;
+use manual::Fault;
+use manual::Machine;
+use manual::Outcome;
+use manual::Pending;
+use manual::Refusal;
 ghost use mathlib.Core.Path.{_≡_};
-ghost use Rattle.told.specs.Told.{refusalNumber};
-ghost use Rattle.state.specs.State.{causeOf, registerOf, causeAfter, stoppedAt, endedWith};
+ghost use Rattle.manual.specs.Told.{refusalNumber};
+ghost use Rattle.manual.specs.State.{causeOf, registerOf, causeAfter, stoppedAt, endedWith};
 
 fn cause_of(fault: Fault) -> u8
     ensures { λ r. ⌜ r ≡ causeOf fault ⌝ }

@@ -1,16 +1,10 @@
 // A start book read: judged whole before anything is written (01, "The start book").
-use core::Machine;
-use told::Refusal;
-use told::Verdict;
+use manual::Refusal;
+use manual::Verdict;
+use pages::Started;
 ghost use mathlib.Core.Path.{_≡_};
 ghost use lib.ListN.{length, replicate};
-ghost use Rattle.enter.specs.Enter.{judged, readBook};
-
-// What a book gives: the verdict on it, and the machine that it names, all zero where it is refused.
-pub struct Started {
-    pub verdict: Verdict,
-    pub machine: Machine,
-}
+ghost use Rattle.pages.specs.Enter.{judged, readBook};
 
 // Every byte 0.
 fn clear(bytes: &mut [u8])

@@ -1,16 +1,16 @@
 // The records of a start book entered into a machine and its memories, one after the other (01, "The start book").
-use book::Step;
-use cap::Cap;
-use core::Machine;
-use core::Pending;
+use manual::Cap;
+use manual::LINE;
+use manual::Machine;
+use manual::Pending;
 use mem::RAM_BASE;
-use num::LINE;
-use record::Entry;
-use record::PCC;
+use pages::Entry;
+use pages::PCC;
+use pages::Step;
 ghost use mathlib.Core.Path.{_≡_};
 ghost use Prim.Native.Nat.{_≤_};
 ghost use lib.ListN.{length};
-ghost use Rattle.entering.specs.Entering.{zeroMachine, withCapability, withGeneral, machineWith, ramWith, tagsWith, enterBook, bare, RegisterIsThere, LineIsThere};
+ghost use Rattle.pages.specs.Entering.{zeroMachine, withCapability, withGeneral, machineWith, ramWith, tagsWith, enterBook, bare, RegisterIsThere, LineIsThere};
 
 // The machine of which no register is named.
 pub fn zero_machine() -> Machine
@@ -75,7 +75,7 @@ fn put_entry(book: &[u8], end: usize, entry: Entry, ram: &mut [u8], tags: &mut [
             let e = at + LINE;
             let start = end - LINE;
             bytes::copy(&book[start..end], &mut ram[at..e]);
-            store::with_tag(tags, at / LINE, tag);
+            tags::with_tag(tags, at / LINE, tag);
         }
         Entry::Capability(_, _) => {}
         Entry::General(_, _) => {}

@@ -1,12 +1,12 @@
 // What a record of a start book says, or why it is refused.
+use manual::LINE;
+use manual::Refusal;
 use mem::RAM_BASE;
-use num::LINE;
-use record::Entry;
-use told::Refusal;
+use pages::Entry;
 ghost use mathlib.Core.Path.{_≡_};
 ghost use mathlib.Core.Bool.{_&&_};
 ghost use lib.Dec.{leb};
-ghost use Rattle.entry.specs.Entry.{generalOf, isLine, lineOf, entryOf};
+ghost use Rattle.pages.specs.Entry.{generalOf, isLine, lineOf, entryOf};
 
 fn is_general(number: u8) -> bool
     ensures { λ r. ⌜ r ≡ (leb 1 number && leb number 31) ⌝ }

@@ -6,37 +6,37 @@ use mathlib.Core.List.{List, map}
 use lib.Dec.{eqb, leb}
 use lib.ListN.{length, replicate, length-replicate}
 use borrow.Author.Tests.{eq-eqb}
-use Rattle.num.specs.Number.{LINE, be, extendFrom, plusMod, toBe}
-use Rattle.mem.specs.Place.{bytesOf, numberOf, placeOf}
-use Rattle.store.specs.Store.{put, withTag}
-use Rattle.cap.specs.Cap.{accessBit, permitted, registerOpen}
-use Rattle.narrow.specs.Narrow.{incOffset}
-use Rattle.access.specs.Access.{accessOf, placedAt, placedFrom, signed, sumOf}
-use Rattle.line.specs.Line.{capIn, decode, fromWords}
-use Rattle.isa.specs.Decode.{codedSize, decodeWord, ifZero, isJumpWord, loadWord, lookup, majors, specialWord}
-use Rattle.checks.specs.Checks.{settle}
+use Rattle.manual.specs.Number.{LINE, be, extendFrom, plusMod, toBe}
+use Rattle.manual.specs.Place.{bytesOf, numberOf, placeOf}
+use Rattle.manual.specs.Store.{put, withTag}
+use Rattle.manual.specs.Cap.{accessBit, permitted, registerOpen}
+use Rattle.manual.specs.Narrow.{incOffset}
+use Rattle.manual.specs.Access.{accessOf, placedAt, placedFrom, signed, sumOf}
+use Rattle.manual.specs.Line.{capIn, decode, fromWords}
+use Rattle.manual.specs.Decode.{codedSize, decodeWord, ifZero, isJumpWord, loadWord, lookup, majors, specialWord}
+use Rattle.manual.specs.Checks.{settle}
 use Rattle.manual.specs.Transfer.{load}
 use Rattle.manual.specs.Branch.{branch, branchTo}
 use Rattle.manual.specs.Plan.{planOf}
 use Rattle.manual.specs.Perform.{ramOf, tagsOf, turnOf}
 use Rattle.manual.specs.Act.{plannedOf}
-use Rattle.fetch.specs.Fetch.{fetchOf}
-use Rattle.state.specs.State.{commit, operandsOf, stoppedAt}
-use Rattle.state.specs.Steps.{ramAt, runFrom, tagsAt, turnAt}
-use Rattle.told.specs.declared.Refusal.{Refusal}
-use Rattle.record.specs.Record.{bodyAt, headAt}
-use Rattle.entry.specs.Entry.{entryOf, generalOf, isLine, lineOf}
-use Rattle.fields.specs.Fields.{capOf, capabilityOf}
-use Rattle.told.specs.declared.Verdict.{Verdict}
-use Rattle.book.specs.Book.{afterEntry, afterHead, checkBook, inOrder, stepAt, walk}
-use Rattle.entering.specs.Entering.{bare, enterAll, enterBook, machineWith, ramWith, tagsWith}
-use Rattle.enter.specs.Enter.{startAs, judged, readBook}
-use Rattle.compose.specs.Compose.{capBody, fields, generalBody, lineBody, recordOf}
-use Rattle.state.specs.Run.{runOf}
-use Rattle.told.specs.declared.Answer.{Answer}
-use Rattle.told.specs.Told.{refusing}
-use Rattle.asked.specs.Bench.{BENCH-RAM, BUDGET, FILE-MOST, benchOf}
-use Rattle.asked.specs.Answer.{answerOf, startedBy, bookRun}
+use Rattle.manual.specs.Fetch.{fetchOf}
+use Rattle.manual.specs.State.{commit, operandsOf, stoppedAt}
+use Rattle.manual.specs.Steps.{ramAt, runFrom, tagsAt, turnAt}
+use Rattle.manual.specs.declared.Refusal.{Refusal}
+use Rattle.pages.specs.Record.{bodyAt, headAt}
+use Rattle.pages.specs.Entry.{entryOf, generalOf, isLine, lineOf}
+use Rattle.pages.specs.Fields.{capOf, capabilityOf}
+use Rattle.manual.specs.declared.Verdict.{Verdict}
+use Rattle.pages.specs.Book.{afterEntry, afterHead, checkBook, inOrder, stepAt, walk}
+use Rattle.pages.specs.Entering.{bare, enterAll, enterBook, machineWith, ramWith, tagsWith}
+use Rattle.pages.specs.Enter.{startAs, judged, readBook}
+use Rattle.pages.specs.Compose.{capBody, fields, generalBody, lineBody, recordOf}
+use Rattle.manual.specs.Run.{runOf}
+use Rattle.manual.specs.declared.Answer.{Answer}
+use Rattle.manual.specs.Told.{refusing}
+use Rattle.pages.specs.Bench.{BENCH-RAM, BUDGET, FILE-MOST, benchOf}
+use Rattle.pages.specs.Answer.{answerOf, startedBy, bookRun}
 use Rattle.examples.specs.Table.{Row, table}
 use Rattle.examples.specs.Claims.{BenchTable}
 use Rattle.granted.proofs.Read.{read-is-accepted}

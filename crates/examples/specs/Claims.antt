@@ -3,8 +3,8 @@ use Prim.Native.Nat.{ℕ, _/_}
 use mathlib.Core.Path.{_≡_}
 use mathlib.Core.List.{List, map}
 use lib.ListN.{length}
-use Rattle.num.specs.Number.{LINE}
-use Rattle.asked.specs.Bench.{BENCH-RAM, benchOf}
+use Rattle.manual.specs.Number.{LINE}
+use Rattle.pages.specs.Bench.{BENCH-RAM, benchOf}
 use Rattle.examples.specs.Table.{Row, table}
 
 -- the bench prints of each row what the row says, whatever its RAM and tags held before

@@ -3,14 +3,14 @@ use Prim.Native.Nat.{ℕ, _+_, _-_, _*_, _/_, _^_}
 use mathlib.Core.Bool.{true, false}
 use mathlib.Core.List.{List, [], _∷_, _++_, map}
 use lib.ListN.{length, replicate, set}
-use Rattle.num.specs.Number.{LINE, toBe}
-use Rattle.mem.specs.Place.{RAM-BASE}
-use Rattle.cap.specs.declared.Cap.{Cap}
-use Rattle.cap.specs.Cap.{EXECUTE, LOAD, STORE}
-use Rattle.narrow.specs.Narrow.{setLength, setOffset, withRange}
-use Rattle.checks.specs.Checks.{LENGTH, TAG, NO-REGISTER}
-use Rattle.compose.specs.Compose.{recordOf, capBody, generalBody, lineBody}
-use Rattle.told.specs.declared.Answer.{Answer}
+use Rattle.manual.specs.Number.{LINE, toBe}
+use Rattle.manual.specs.Place.{RAM-BASE}
+use Rattle.manual.specs.declared.Cap.{Cap}
+use Rattle.manual.specs.Cap.{EXECUTE, LOAD, STORE}
+use Rattle.manual.specs.Narrow.{setLength, setOffset, withRange}
+use Rattle.manual.specs.Checks.{LENGTH, TAG, NO-REGISTER}
+use Rattle.pages.specs.Compose.{recordOf, capBody, generalBody, lineBody}
+use Rattle.manual.specs.declared.Answer.{Answer}
 
 pub record Row : Type 0 where
   pub book : List ℕ

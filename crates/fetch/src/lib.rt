@@ -1,20 +1,16 @@
 // The word at PCC fetched, or why there is none (01, "Access and fetch").
-use access::Access;
-use cap::Cap;
-use checks::Fault;
-use checks::LENGTH;
-use checks::NO_REGISTER;
-use checks::SEAL;
-use checks::TAG;
-use mem::Loaded;
-use num::Size;
+use manual::Access;
+use manual::Cap;
+use manual::Fault;
+use manual::Fetched;
+use manual::LENGTH;
+use manual::Loaded;
+use manual::NO_REGISTER;
+use manual::SEAL;
+use manual::Size;
+use manual::TAG;
 ghost use mathlib.Core.Path.{_≡_};
-ghost use Rattle.fetch.specs.Fetch.{wordIn, fetchOf, wordOf, aheadOf};
-
-pub enum Fetched {
-    Word(u32),
-    Stops(Fault),
-}
+ghost use Rattle.manual.specs.Fetch.{wordIn, fetchOf, wordOf, aheadOf};
 
 fn word_in(loaded: Loaded) -> Fetched
     ensures { λ r. ⌜ r ≡ wordIn loaded ⌝ }

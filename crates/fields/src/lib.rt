@@ -1,15 +1,15 @@
 // A capability record of a start book: its fields, and why they are refused.
-use cap::Cap;
-use num::Address;
-use num::Offset;
-use record::Entry;
-use record::PCC;
-use told::Refusal;
+use manual::Address;
+use manual::Cap;
+use manual::Offset;
+use manual::Refusal;
+use pages::Entry;
+use pages::PCC;
 ghost use mathlib.Core.Path.{_≡_};
 ghost use mathlib.Core.Bool.{_&&_};
 ghost use lib.ListN.{length};
 ghost use lib.Dec.{leb, ltb};
-ghost use Rattle.fields.specs.Fields.{capOf, capabilityOf};
+ghost use Rattle.pages.specs.Fields.{capOf, capabilityOf};
 
 // The register's number, its two flags, and the top byte of its permissions.
 fn are_fields(number: u8, tag: u8, sealed: u8, top: u8) -> bool

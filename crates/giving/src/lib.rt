@@ -1,13 +1,13 @@
 // Every register of a machine as bytes, for a reader outside.
-use cap::Cap;
-use core::Machine;
 use inscribe::CAP_RECORD;
 use inscribe::GENERAL_RECORD;
-use record::PCC;
+use manual::Cap;
+use manual::Machine;
+use pages::PCC;
 ghost use mathlib.Core.Path.{_≡_};
-ghost use Rattle.store.specs.Store.{put};
-ghost use Rattle.naming.specs.Run.{Runs};
-ghost use Rattle.giving.specs.Registers.{capRecords, generalRecords, registersOf};
+ghost use Rattle.manual.specs.Store.{put};
+ghost use Rattle.pages.specs.Runs.{Runs};
+ghost use Rattle.pages.specs.Registers.{capRecords, generalRecords, registersOf};
 
 // Where the records of PCC and of general register 1 stand among the registers, and where the last one ends.
 const PCC_RECORD: usize = 1217;

@@ -5,17 +5,17 @@ use mathlib.Core.Path.{_≡_, refl, sym, _∙_}
 use mathlib.Core.List.{List}
 use native.Mathlib.Omega.{arith}
 use lib.ListN.{getD, set}
-use Rattle.cap.specs.declared.Cap.{Cap}
-use Rattle.narrow.specs.Narrow.{null, setOffset}
-use Rattle.isa.specs.Word.{field25, field20, field15, field10}
-use Rattle.core.specs.declared.Pending.{Pending}
-use Rattle.core.specs.Registers.{isPending}
-use Rattle.fetch.specs.Fetch.{fetchOf, wordOf, aheadOf}
+use Rattle.manual.specs.declared.Cap.{Cap}
+use Rattle.manual.specs.Narrow.{null, setOffset}
+use Rattle.manual.specs.Word.{field25, field20, field15, field10}
+use Rattle.manual.specs.declared.Pending.{Pending}
+use Rattle.manual.specs.Registers.{isPending}
+use Rattle.manual.specs.Fetch.{fetchOf, wordOf, aheadOf}
 use Rattle.special.specs.Special.{Amounts}
 use Rattle.deriving.specs.declared.Capable.{Capable}
 use Rattle.capable.specs.Capable.{Shows, Capably}
-use Rattle.state.specs.State.{operandsOf, kept, nextPcc, commit}
-use Rattle.state.specs.Steps.{runFrom}
+use Rattle.manual.specs.State.{operandsOf, kept, nextPcc, commit}
+use Rattle.manual.specs.Steps.{runFrom}
 use Rattle.way.specs.declared.Way.{Way}
 use Rattle.way.specs.Way.{waitingAt, onFrom}
 use Rattle.slide.specs.Slide.{holding, Glides, Sees}

@@ -2,9 +2,9 @@
 use Prim.Native.Nat.{ℕ}
 use mathlib.Core.List.{List}
 use lib.ListN.{getD}
-use Rattle.cap.specs.declared.Cap.{Cap}
-use Rattle.isa.specs.Word.{field25, field20, field15, field10}
-use Rattle.isa.specs.Decode.{decodeWord}
+use Rattle.manual.specs.declared.Cap.{Cap}
+use Rattle.manual.specs.Word.{field25, field20, field15, field10}
+use Rattle.manual.specs.Decode.{decodeWord}
 use Rattle.deriving.specs.declared.Capable.{Capable}
 use Rattle.capable.specs.Capable.{Capably}
 

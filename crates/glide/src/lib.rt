@@ -1,8 +1,8 @@
 // Steps made one after the other by a shorter way, as far as it goes: the whole way makes the others.
-use cap::Cap;
-use checks::Named;
-use core::Pending;
 use deriving::Capable;
+use manual::Cap;
+use manual::Named;
+use manual::Pending;
 use way::Glided;
 use way::Way;
 ghost use mathlib.Core.Path.{_≡_};

@@ -7,14 +7,14 @@ use native.Mathlib.Omega.{arith}
 use borrow.Author.Tests.{eq-eqb, le-ltb}
 use lib.Dec.{eqb, ltb}
 use lib.ListN.{length, getD}
-use Rattle.store.specs.Store.{tagOf}
-use Rattle.cap.specs.declared.Cap.{Cap}
-use Rattle.narrow.specs.Narrow.{null}
-use Rattle.told.specs.declared.Refusal.{Refusal}
-use Rattle.told.specs.declared.Verdict.{Verdict}
-use Rattle.accept.specs.Accept.{every, sizesFit, tagBytesFit, topFits, capsFit, jumpFits, lineFits, linesFit, widthFits, widthsFit, jumpWidth, verdictOf}
-use Rattle.entering.specs.Entering.{Start}
-use Rattle.accept.proofs.Accepted.{load-line}
+use Rattle.manual.specs.Store.{tagOf}
+use Rattle.manual.specs.declared.Cap.{Cap}
+use Rattle.manual.specs.Narrow.{null}
+use Rattle.manual.specs.declared.Refusal.{Refusal}
+use Rattle.manual.specs.declared.Verdict.{Verdict}
+use Rattle.manual.specs.Accept.{every, sizesFit, tagBytesFit, topFits, capsFit, jumpFits, lineFits, linesFit, widthFits, widthsFit, jumpWidth, verdictOf}
+use Rattle.pages.specs.Entering.{Start}
+use Rattle.manual.proofs.Accepted.{load-line}
 use Rattle.granted.proofs.Sound.{Sound}
 
 -- a scan passes where each test does

@@ -5,24 +5,24 @@ use mathlib.Core.Bool.{Bool, true, false}
 use mathlib.Core.List.{List, [], _∷_}
 use native.Mathlib.Omega.{arith}
 use lib.ListN.{length}
-use Rattle.cap.specs.declared.Cap.{Cap}
-use Rattle.narrow.specs.Narrow.{null}
-use Rattle.checks.specs.declared.Fault.{Fault}
-use Rattle.core.specs.declared.Pending.{Pending}
+use Rattle.manual.specs.declared.Cap.{Cap}
+use Rattle.manual.specs.Narrow.{null}
+use Rattle.manual.specs.declared.Fault.{Fault}
+use Rattle.manual.specs.declared.Pending.{Pending}
 use Rattle.manual.specs.declared.Turn.{Turn}
-use Rattle.fetch.specs.declared.Fetched.{Fetched}
+use Rattle.manual.specs.declared.Fetched.{Fetched}
 use Rattle.manual.specs.Act.{plannedOf}
-use Rattle.fetch.specs.Fetch.{fetchOf}
-use Rattle.accept.specs.Accept.{sizesFit}
-use Rattle.core.specs.declared.Machine.{Machine}
-use Rattle.state.specs.State.{capability, stoppedAt}
-use Rattle.state.specs.Steps.{turnAt, ramAt, tagsAt, runFrom}
-use Rattle.state.proofs.Runs.{off, first}
-use Rattle.state.specs.Run.{runOf}
-use Rattle.record.specs.Record.{headAt}
-use Rattle.book.specs.Book.{afterHead, stepAt, walk, checkBook}
-use Rattle.entering.specs.Entering.{Start, zeroMachine, enterAll}
-use Rattle.enter.specs.Enter.{judged}
+use Rattle.manual.specs.Fetch.{fetchOf}
+use Rattle.manual.specs.Accept.{sizesFit}
+use Rattle.manual.specs.declared.Machine.{Machine}
+use Rattle.manual.specs.State.{capability, stoppedAt}
+use Rattle.manual.specs.Steps.{turnAt, ramAt, tagsAt, runFrom}
+use Rattle.manual.proofs.Runs.{off, first}
+use Rattle.manual.specs.Run.{runOf}
+use Rattle.pages.specs.Record.{headAt}
+use Rattle.pages.specs.Book.{afterHead, stepAt, walk, checkBook}
+use Rattle.pages.specs.Entering.{Start, zeroMachine, enterAll}
+use Rattle.pages.specs.Enter.{judged}
 use Rattle.isolation.specs.Reach.{Memories, Held, Reach}
 use Rattle.reread.proofs.Again.{read-accepted}
 use Rattle.granted.specs.Granted.{BookAccepted, read, StartAccepted, NoneTagged, lent, GivesNothing, NothingGranted, allZero, EmptyBook}

@@ -7,17 +7,17 @@ use native.Mathlib.Omega.{arith}
 use borrow.Author.Tests.{leb-true, eqb-true}
 use lib.Dec.{eqb, leb}
 use lib.ListN.{length, getD, replicate, length-replicate}
-use Rattle.mem.specs.Place.{memoryFits, tagsFit}
-use Rattle.store.specs.Store.{tagOf}
-use Rattle.narrow.specs.Narrow.{null}
-use Rattle.accept.specs.Accept.{sizesFit}
-use Rattle.told.specs.declared.Refusal.{Refusal}
-use Rattle.told.specs.declared.Verdict.{Verdict}
-use Rattle.book.specs.Book.{checkBook, stepAt}
-use Rattle.entering.specs.Entering.{bare}
-use Rattle.enter.specs.Enter.{judged}
-use Rattle.checks.proofs.Tests.{both-true}
-use Rattle.accept.proofs.Accepted.{untagged}
+use Rattle.manual.specs.Place.{memoryFits, tagsFit}
+use Rattle.manual.specs.Store.{tagOf}
+use Rattle.manual.specs.Narrow.{null}
+use Rattle.manual.specs.Accept.{sizesFit}
+use Rattle.manual.specs.declared.Refusal.{Refusal}
+use Rattle.manual.specs.declared.Verdict.{Verdict}
+use Rattle.pages.specs.Book.{checkBook, stepAt}
+use Rattle.pages.specs.Entering.{bare}
+use Rattle.pages.specs.Enter.{judged}
+use Rattle.manual.proofs.Tests.{both-true}
+use Rattle.manual.proofs.Accepted.{untagged}
 use Rattle.reread.proofs.Again.{read-accepted}
 use Rattle.granted.specs.Granted.{BookAccepted, read, ReadIsAccepted}
 use Rattle.granted.proofs.Says.{Fit}

@@ -9,17 +9,17 @@ use borrow.Author.Tests.{lt-ltb}
 use lib.Dec.{eqb, ltb}
 use lib.ListN.{length, take, drop, length-take, length-drop}
 use lib.Seq.{drop-drop, drop-at, take-add, take-take, length-take-le}
-use Rattle.cap.specs.declared.Cap.{Cap}
-use Rattle.line.specs.Line.{capIn}
-use Rattle.accept.specs.Accept.{topFits, loadedFits, widthFits}
-use Rattle.record.specs.declared.Entry.{Entry}
-use Rattle.record.specs.Record.{byte, number}
-use Rattle.entry.specs.Entry.{entryOf}
-use Rattle.entry.proofs.Laws.{by-kind}
-use Rattle.fields.specs.Fields.{capOf}
-use Rattle.book.specs.declared.Step.{Step}
-use Rattle.book.specs.Book.{stepAt}
-use Rattle.book.proofs.Walks.{more-goes-on, more-fits}
+use Rattle.manual.specs.declared.Cap.{Cap}
+use Rattle.manual.specs.Line.{capIn}
+use Rattle.manual.specs.Accept.{topFits, loadedFits, widthFits}
+use Rattle.pages.specs.declared.Entry.{Entry}
+use Rattle.pages.specs.Record.{byte, number}
+use Rattle.pages.specs.Entry.{entryOf}
+use Rattle.pages.proofs.Entries.{by-kind}
+use Rattle.pages.specs.Fields.{capOf}
+use Rattle.pages.specs.declared.Step.{Step}
+use Rattle.pages.specs.Book.{stepAt}
+use Rattle.pages.proofs.Walks.{more-goes-on, more-fits}
 
 -- neither 22 nor 24
 pub record Fit (c : Cap) : Type 0 where

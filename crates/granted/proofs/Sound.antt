@@ -9,20 +9,20 @@ use borrow.Author.Tests.{eqb-true, eqb-false, ltb-true, ltb-false}
 use lib.Dec.{eqb, ltb}
 use lib.ListN.{length, getD, set, take, drop, length-take, length-drop}
 use lib.Seq.{ext-getD, getD-take, getD-drop, getD-set-other, length-take-le}
-use Rattle.mem.specs.Place.{RAM-BASE}
-use Rattle.store.specs.Store.{bit, put, tagOf, withTag}
-use Rattle.store.proofs.Stores.{length-put, put-read, others-stay, length-withTag, tag-is-set, other-tags-stay}
-use Rattle.cap.specs.declared.Cap.{Cap}
-use Rattle.narrow.specs.Narrow.{null}
-use Rattle.line.specs.Line.{capIn}
-use Rattle.core.specs.declared.Pending.{Pending}
-use Rattle.accept.specs.Accept.{loadedFits}
-use Rattle.core.specs.declared.Machine.{Machine}
-use Rattle.record.specs.declared.Entry.{Entry}
-use Rattle.book.specs.declared.Step.{Step}
-use Rattle.book.specs.Book.{kindOf, keyOf, stepAt}
-use Rattle.entering.specs.Entering.{Start, machineWith, ramWith, tagsWith, entered, enterAll, LineIsThere}
-use Rattle.entering.proofs.Enters.{there}
+use Rattle.manual.specs.Place.{RAM-BASE}
+use Rattle.manual.specs.Store.{bit, put, tagOf, withTag}
+use Rattle.manual.proofs.Stores.{length-put, put-read, others-stay, length-withTag, tag-is-set, other-tags-stay}
+use Rattle.manual.specs.declared.Cap.{Cap}
+use Rattle.manual.specs.Narrow.{null}
+use Rattle.manual.specs.Line.{capIn}
+use Rattle.manual.specs.declared.Pending.{Pending}
+use Rattle.manual.specs.Accept.{loadedFits}
+use Rattle.manual.specs.declared.Machine.{Machine}
+use Rattle.pages.specs.declared.Entry.{Entry}
+use Rattle.pages.specs.declared.Step.{Step}
+use Rattle.pages.specs.Book.{kindOf, keyOf, stepAt}
+use Rattle.pages.specs.Entering.{Start, machineWith, ramWith, tagsWith, entered, enterAll, LineIsThere}
+use Rattle.pages.proofs.Enters.{there}
 use Rattle.granted.proofs.Says.{Fit, Says, more-says}
 
 -- the registers of a machine that a book set

@@ -4,14 +4,14 @@ use mathlib.Core.Path.{_≡_}
 use mathlib.Core.Bool.{true, false}
 use mathlib.Core.List.{List, [], _∷_}
 use lib.ListN.{length, getD, replicate}
-use Rattle.cap.specs.declared.Cap.{Cap}
-use Rattle.told.specs.declared.Verdict.{Verdict}
-use Rattle.accept.specs.Accept.{sizesFit, verdictOf}
-use Rattle.core.specs.declared.Machine.{Machine}
-use Rattle.state.specs.State.{capability}
-use Rattle.state.specs.Run.{runOf}
-use Rattle.entering.specs.Entering.{Start, zeroMachine}
-use Rattle.enter.specs.Enter.{judged, readBook}
+use Rattle.manual.specs.declared.Cap.{Cap}
+use Rattle.manual.specs.declared.Verdict.{Verdict}
+use Rattle.manual.specs.Accept.{sizesFit, verdictOf}
+use Rattle.manual.specs.declared.Machine.{Machine}
+use Rattle.manual.specs.State.{capability}
+use Rattle.manual.specs.Run.{runOf}
+use Rattle.pages.specs.Entering.{Start, zeroMachine}
+use Rattle.pages.specs.Enter.{judged, readBook}
 use Rattle.isolation.specs.Reach.{Memories, Reach, CanRead, CanLoad}
 
 -- read_book accepts this book beside these memories, and what it then sets

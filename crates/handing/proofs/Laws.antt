@@ -4,14 +4,14 @@ use mathlib.Core.Path.{_≡_, _∙_, ap}
 use mathlib.Core.List.{List}
 use borrow.Author.Tests.{le-leb}
 use lib.ListN.{length}
-use Rattle.store.specs.Store.{put}
-use Rattle.core.specs.declared.Machine.{Machine}
-use Rattle.told.specs.declared.Verdict.{Verdict}
-use Rattle.told.specs.Told.{verdictNumber, over}
-use Rattle.enter.specs.Enter.{judged, readBook}
-use Rattle.giving.specs.Registers.{REGISTERS, registersOf}
-use Rattle.giving.proofs.Registers.{registers-front}
-use Rattle.handing.specs.Handing.{readInto}
+use Rattle.manual.specs.Store.{put}
+use Rattle.manual.specs.declared.Machine.{Machine}
+use Rattle.manual.specs.declared.Verdict.{Verdict}
+use Rattle.manual.specs.Told.{verdictNumber, over}
+use Rattle.pages.specs.Enter.{judged, readBook}
+use Rattle.pages.specs.Registers.{REGISTERS, registersOf}
+use Rattle.pages.proofs.Registers.{registers-front}
+use Rattle.pages.specs.Handing.{readInto}
 
 -- a book that was read, and its registers put
 module _ (book : List ℕ) (flash : ℕ) (ram tags registers : List ℕ) (room : REGISTERS ≤ length registers) (v : Verdict) (m : Machine) (ram′ tags′ registers′ : List ℕ) (code : ℕ)

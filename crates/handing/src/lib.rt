@@ -1,8 +1,8 @@
 // A book read for a reader outside: its registers handed out as bytes, its RAM and its tags.
 use giving::REGISTERS;
-use told::Refusal;
+use manual::Refusal;
 ghost use mathlib.Core.Path.{_≡_};
-ghost use Rattle.handing.specs.Handing.{readInto};
+ghost use Rattle.pages.specs.Handing.{readInto};
 
 // Reads a book: 0 or the refusal, the registers that it gives in `registers`, and its RAM and its tags.
 pub fn read_into(

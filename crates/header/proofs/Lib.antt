@@ -1,2 +1,4 @@
+pub mod Given
+pub mod Taken
 pub mod Refusals
 pub mod Numbers

@@ -7,38 +7,38 @@ use native.Mathlib.Omega.{arith}
 use borrow.Author.Tests.{le-ltb, eqb-true}
 use lib.Dec.{eqb, leb, ltb}
 use lib.ListN.{length, getD, length-append}
-use Rattle.num.specs.Number.{LINE, Bytes}
-use Rattle.narrow.specs.Narrow.{null}
-use Rattle.checks.specs.declared.Fault.{Fault}
-use Rattle.checks.specs.Checks.{stopNumber}
-use Rattle.mem.specs.Place.{memoryFits, tagsFit}
-use Rattle.told.specs.declared.Refusal.{Refusal}
-use Rattle.told.specs.declared.Verdict.{Verdict}
-use Rattle.told.specs.Told.{refusalNumber, verdictNumber, codeOf, ANSWER-NUMBERS}
-use Rattle.accept.specs.Accept.{sizesFit, tagBytesFit, topFits, capsFit, jumpFits, linesFit, widthFits, widthsFit, jumpWidth, verdictOf}
-use Rattle.core.specs.declared.Machine.{Machine}
+use Rattle.manual.specs.Number.{LINE, Bytes}
+use Rattle.manual.specs.Narrow.{null}
+use Rattle.manual.specs.declared.Fault.{Fault}
+use Rattle.manual.specs.Checks.{stopNumber}
+use Rattle.manual.specs.Place.{memoryFits, tagsFit}
+use Rattle.manual.specs.declared.Refusal.{Refusal}
+use Rattle.manual.specs.declared.Verdict.{Verdict}
+use Rattle.manual.specs.Told.{refusalNumber, verdictNumber, codeOf, ANSWER-NUMBERS}
+use Rattle.manual.specs.Accept.{sizesFit, tagBytesFit, topFits, capsFit, jumpFits, linesFit, widthFits, widthsFit, jumpWidth, verdictOf}
+use Rattle.manual.specs.declared.Machine.{Machine}
 use Rattle.manual.specs.declared.Change.{Change}
 use Rattle.manual.specs.declared.Turn.{Turn}
-use Rattle.state.specs.State.{commit, stoppedAt}
-use Rattle.state.specs.Steps.{turnAt, ramAt, tagsAt, runFrom}
-use Rattle.state.specs.Run.{runOf}
-use Rattle.state.proofs.Runs.{goes}
-use Rattle.entry.proofs.Laws.{when}
-use Rattle.enter.specs.Enter.{judged, readBook}
-use Rattle.naming.specs.Naming.{capPiece, generalPiece}
-use Rattle.naming.proofs.Pieces.{cap-most, general-most}
-use Rattle.naming.proofs.Runs.{pieces-most}
-use Rattle.spell.specs.Spell.{linePiece, capPieces, generalPieces, linePieces, bookOf}
-use Rattle.spell.proofs.Books.{line-most}
-use Rattle.write.specs.Write.{Result, rests, afterStart, afterVerdict, writeBook}
+use Rattle.manual.specs.State.{commit, stoppedAt}
+use Rattle.manual.specs.Steps.{turnAt, ramAt, tagsAt, runFrom}
+use Rattle.manual.specs.Run.{runOf}
+use Rattle.manual.proofs.Runs.{goes}
+use Rattle.pages.proofs.Entries.{when}
+use Rattle.pages.specs.Enter.{judged, readBook}
+use Rattle.pages.specs.Naming.{capPiece, generalPiece}
+use Rattle.pages.proofs.Pieces.{cap-most, general-most}
+use Rattle.pages.proofs.RunLaws.{pieces-most}
+use Rattle.pages.specs.Spell.{linePiece, capPieces, generalPieces, linePieces, bookOf}
+use Rattle.pages.proofs.Books.{line-most}
+use Rattle.pages.specs.Write.{Result, rests, afterStart, afterVerdict, writeBook}
 use Rattle.granted.proofs.Accepted.{widths}
 use Rattle.granted.proofs.Read.{read-sound, read-is-accepted}
-use Rattle.giving.specs.Registers.{REGISTERS}
-use Rattle.handing.specs.Handing.{Read, NO-ROOM, readInto}
-use Rattle.taking.specs.Taking.{writtenBy, writeFrom}
-use Rattle.taking.proofs.Taken.{given}
-use Rattle.asked.specs.Answer.{startedBy, bookRun}
-use Rattle.asked.specs.Exported.{Ran, runInto}
+use Rattle.pages.specs.Registers.{REGISTERS}
+use Rattle.pages.specs.Handing.{Read, NO-ROOM, readInto}
+use Rattle.pages.specs.Taking.{writtenBy, writeFrom}
+use Rattle.header.proofs.Taken.{given}
+use Rattle.pages.specs.Answer.{startedBy, bookRun}
+use Rattle.pages.specs.Exported.{Ran, runInto}
 use Rattle.header.specs.Header.{listed, RUN-NUMBERS, READ-NUMBERS, WRITE-NUMBERS, BOOK-BYTES, RunNumbers, ReadNumbers, WriteNumbers, RoomForEvery}
 use Rattle.header.proofs.Refusals.{VerdictFair, judged-fair, each}
 

@@ -3,17 +3,17 @@ use Prim.Native.Nat.{ℕ, zero, suc, _+_}
 use mathlib.Core.List.{List}
 use lib.Dec.{eqb}
 use lib.ListN.{length, take, drop}
-use Rattle.accept.specs.Accept.{sizesFit}
-use Rattle.told.specs.declared.Refusal.{Refusal}
-use Rattle.record.specs.declared.Entry.{Entry}
-use Rattle.record.specs.declared.Head.{Head}
-use Rattle.record.specs.Record.{byte, headAt}
-use Rattle.entry.specs.Entry.{entryOf}
-use Rattle.entry.proofs.Laws.{when, by-kind}
-use Rattle.book.specs.declared.Step.{Step}
-use Rattle.told.specs.declared.Verdict.{Verdict}
-use Rattle.book.specs.Book.{kindOf, keyOf, inOrder, afterEntry, afterHead, stepAt, walk, checkBook}
-use Rattle.enter.specs.Enter.{judged}
+use Rattle.manual.specs.Accept.{sizesFit}
+use Rattle.manual.specs.declared.Refusal.{Refusal}
+use Rattle.pages.specs.declared.Entry.{Entry}
+use Rattle.pages.specs.declared.Head.{Head}
+use Rattle.pages.specs.Record.{byte, headAt}
+use Rattle.pages.specs.Entry.{entryOf}
+use Rattle.pages.proofs.Entries.{when, by-kind}
+use Rattle.pages.specs.declared.Step.{Step}
+use Rattle.manual.specs.declared.Verdict.{Verdict}
+use Rattle.pages.specs.Book.{kindOf, keyOf, inOrder, afterEntry, afterHead, stepAt, walk, checkBook}
+use Rattle.pages.specs.Enter.{judged}
 
 -- a book is refused with 20, 22 and 30 to 34 alone
 abbrev pub OfBook : Refusal → Type 0

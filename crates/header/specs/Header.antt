@@ -5,11 +5,11 @@ use mathlib.Core.Bool.{Bool, true, false, _||_}
 use mathlib.Core.List.{List, [], _∷_}
 use lib.ListN.{length}
 use lib.Dec.{eqb}
-use Rattle.num.specs.Number.{LINE, Bytes}
-use Rattle.handing.specs.Handing.{NO-ROOM, readInto}
-use Rattle.told.specs.Told.{codeOf}
-use Rattle.taking.specs.Taking.{writeFrom}
-use Rattle.asked.specs.Exported.{runInto}
+use Rattle.manual.specs.Number.{LINE, Bytes}
+use Rattle.pages.specs.Handing.{NO-ROOM, readInto}
+use Rattle.manual.specs.Told.{codeOf}
+use Rattle.pages.specs.Taking.{writeFrom}
+use Rattle.pages.specs.Exported.{runInto}
 
 unfoldable pub listed : ℕ → List ℕ → Bool
 listed n [] = false

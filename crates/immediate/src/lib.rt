@@ -1,8 +1,8 @@
 // The signed fields of a word, each in 64 bits (01, "Instruction words").
 ghost use mathlib.Core.Path.{_≡_};
 ghost use Prim.Native.Nat.{_+_, _*_, _%_, _^_, _<_};
-ghost use Rattle.num.specs.Number.{extendFrom};
-ghost use Rattle.isa.specs.Word.{extended, signed8, signed11, signed16};
+ghost use Rattle.manual.specs.Number.{extendFrom};
+ghost use Rattle.manual.specs.Word.{extended, signed8, signed11, signed16};
 
 // A number below twice `half`, the weight of its top bit, with that bit carried on to 64 bits.
 fn extend(x: u64, half: u64) -> u64

@@ -1,8 +1,8 @@
 // The record of a register as the writer of a start book spells it (01, "The start book").
-use cap::Cap;
+use manual::Cap;
 ghost use mathlib.Core.Path.{_≡_};
-ghost use Rattle.store.specs.Store.{put};
-ghost use Rattle.compose.specs.Compose.{recordOf, capBody, generalBody};
+ghost use Rattle.manual.specs.Store.{put};
+ghost use Rattle.pages.specs.Compose.{recordOf, capBody, generalBody};
 
 // The bytes of a record of kind 1 and of kind 2.
 pub const CAP_RECORD: usize = 38;
@@ -17,8 +17,8 @@ pub fn put_cap(out: &mut [u8], at: usize, number: u8, c: Cap)
         store::put_be(out, at, 2, 36);
         store::put_be(out, at + 2, 1, 1);
         store::put_be(out, at + 3, 1, number as u64);
-        store::put_be(out, at + 4, 1, store::tag_byte(c.tag) as u64);
-        store::put_be(out, at + 5, 1, store::tag_byte(c.sealed) as u64);
+        store::put_be(out, at + 4, 1, tags::tag_byte(c.tag) as u64);
+        store::put_be(out, at + 5, 1, tags::tag_byte(c.sealed) as u64);
         store::put_be(out, at + 6, 1, c.spare as u64);
         store::put_be(out, at + 7, 3, c.otype as u64);
         store::put_be(out, at + 10, 4, c.perms as u64);

@@ -1,16 +1,16 @@
 // The instructions that look at a capability and leave it alone (004, chapter 4).
-use cap::Cap;
-use checks::Check;
-use checks::Effect;
-use checks::NO_REGISTER;
-use checks::Named;
-use checks::Planned;
-use checks::SEAL;
-use checks::TYPE;
-use checks::USER;
-use isa::Field;
+use manual::Cap;
+use manual::Check;
+use manual::Effect;
+use manual::Field;
+use manual::NO_REGISTER;
+use manual::Named;
+use manual::Planned;
+use manual::SEAL;
+use manual::TYPE;
+use manual::USER;
 ghost use mathlib.Core.Path.{_≡_};
-ghost use Rattle.checks.specs.Checks.{settle};
+ghost use Rattle.manual.specs.Checks.{settle};
 ghost use Rattle.manual.specs.Inspect.{CauseOpen, fieldOf, pointerOf, get, cGetCause, cSetCause, cToPtr, cCheckPerm, cCheckType};
 
 pub fn field_of(field: Field, c: Cap) -> u64

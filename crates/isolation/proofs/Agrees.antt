@@ -5,29 +5,29 @@ use mathlib.Core.Bool.{Bool, true, false, not}
 use mathlib.Core.List.{List}
 use native.Mathlib.Omega.{arith}
 use lib.ListN.{length, take, drop}
-use Rattle.num.specs.declared.Address.{Address}
-use Rattle.mem.specs.declared.Place.{Place}
-use Rattle.mem.specs.declared.Place.the-variants.{Flash, Ram, Nowhere}
-use Rattle.num.specs.Number.{LINE, bytesIn, toBe}
-use Rattle.mem.specs.Place.{RAM-BASE, placeOf, partOf, bytesOf, numberOf, placeIn}
-use Rattle.store.specs.Store.{tagAt, answerAt, ramAfter, tagsAfter}
-use Rattle.store.proofs.Stores.{length-put, length-withTag}
-use Rattle.cap.specs.declared.Cap.{Cap}
-use Rattle.cap.specs.Cap.{permits, EXECUTE, LOAD-CAPABILITY}
-use Rattle.line.specs.Line.{encode, decode, capIn, loadCap}
-use Rattle.access.specs.declared.Access.{Access}
-use Rattle.access.specs.Access.{accessOf}
-use Rattle.checks.specs.declared.Effect.{Effect}
-use Rattle.checks.specs.declared.Planned.{Planned}
+use Rattle.manual.specs.declared.Address.{Address}
+use Rattle.manual.specs.declared.Place.{Place}
+use Rattle.manual.specs.declared.Place.the-variants.{Flash, Ram, Nowhere}
+use Rattle.manual.specs.Number.{LINE, bytesIn, toBe}
+use Rattle.manual.specs.Place.{RAM-BASE, placeOf, partOf, bytesOf, numberOf, placeIn}
+use Rattle.manual.specs.Store.{tagAt, answerAt, ramAfter, tagsAfter}
+use Rattle.manual.proofs.Stores.{length-put, length-withTag}
+use Rattle.manual.specs.declared.Cap.{Cap}
+use Rattle.manual.specs.Cap.{permits, EXECUTE, LOAD-CAPABILITY}
+use Rattle.manual.specs.Line.{encode, decode, capIn, loadCap}
+use Rattle.manual.specs.declared.Access.{Access}
+use Rattle.manual.specs.Access.{accessOf}
+use Rattle.manual.specs.declared.Effect.{Effect}
+use Rattle.manual.specs.declared.Planned.{Planned}
 use Rattle.manual.specs.declared.Operands.{Operands}
-use Rattle.fetch.specs.declared.Fetched.{Fetched}
+use Rattle.manual.specs.declared.Fetched.{Fetched}
 use Rattle.manual.specs.Perform.{loadedTurn, storedTurn, capTurn, turnOf, ramOf, tagsOf}
 use Rattle.manual.specs.Act.{plannedOf, doneTurn, doneRam, doneTags}
-use Rattle.fetch.specs.Fetch.{wordIn, fetchAt, must, fetchOf, wordOf}
-use Rattle.core.specs.Registers.{isPending}
-use Rattle.core.specs.declared.Machine.{Machine}
-use Rattle.state.specs.State.{operandsOf}
-use Rattle.state.specs.Steps.{turnAt, ramAt, tagsAt}
+use Rattle.manual.specs.Fetch.{wordIn, fetchAt, must, fetchOf, wordOf}
+use Rattle.manual.specs.Registers.{isPending}
+use Rattle.manual.specs.declared.Machine.{Machine}
+use Rattle.manual.specs.State.{operandsOf}
+use Rattle.manual.specs.Steps.{turnAt, ramAt, tagsAt}
 use Rattle.isolation.specs.Reach.{Memories, lineCap, Held, inPcc, Reads, byLoad, byLoadCapability, byExecute, CanRead, CanLoad}
 use Rattle.isolation.specs.Agree.{Agree}
 use Rattle.isolation.proofs.Ranges.{covers-span}

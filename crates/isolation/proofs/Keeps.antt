@@ -9,37 +9,37 @@ use native.Mathlib.Decide.{ℕ-discrete}
 use borrow.Author.Tests.{leb-true, ltb-false}
 use lib.Dec.{eqb, leb, ltb}
 use lib.ListN.{length, take, drop}
-use Rattle.num.specs.declared.Address.{Address}
-use Rattle.num.specs.declared.Size.{Size}
-use Rattle.num.specs.declared.Size.the-variants.{One, Two, Four, Eight, Line}
-use Rattle.mem.specs.declared.Place.{Place}
-use Rattle.mem.specs.declared.Place.the-variants.{Flash, Ram, Nowhere}
-use Rattle.mem.specs.declared.Loaded.{Loaded}
-use Rattle.num.specs.Number.{LINE, bytesIn, toBe}
-use Rattle.mem.specs.Place.{RAM-BASE, placeOf, partOf, bytesOf, loadOf}
-use Rattle.store.specs.Store.{put, tagOf, withTag, tagAt, answerAt, ramAfter, tagsAfter}
-use Rattle.num.proofs.Numbers.{length-toBe}
-use Rattle.store.proofs.Stores.{put-read, length-put, other-tags-stay}
-use Rattle.cap.specs.declared.Cap.{Cap}
-use Rattle.cap.specs.Cap.{permits, LOAD-CAPABILITY}
-use Rattle.narrow.specs.Narrow.{null, incOffset}
-use Rattle.line.specs.declared.LoadedCap.{LoadedCap}
-use Rattle.line.specs.Line.{encode, decode, fromWords, capIn, loadCap}
-use Rattle.line.proofs.Lines.{length-encode}
-use Rattle.isa.specs.Word.{field25, field20, field15, field10}
-use Rattle.checks.specs.declared.Effect.{Effect}
-use Rattle.checks.specs.declared.Planned.{Planned}
+use Rattle.manual.specs.declared.Address.{Address}
+use Rattle.manual.specs.declared.Size.{Size}
+use Rattle.manual.specs.declared.Size.the-variants.{One, Two, Four, Eight, Line}
+use Rattle.manual.specs.declared.Place.{Place}
+use Rattle.manual.specs.declared.Place.the-variants.{Flash, Ram, Nowhere}
+use Rattle.manual.specs.declared.Loaded.{Loaded}
+use Rattle.manual.specs.Number.{LINE, bytesIn, toBe}
+use Rattle.manual.specs.Place.{RAM-BASE, placeOf, partOf, bytesOf, loadOf}
+use Rattle.manual.specs.Store.{put, tagOf, withTag, tagAt, answerAt, ramAfter, tagsAfter}
+use Rattle.manual.proofs.Numbers.{length-toBe}
+use Rattle.manual.proofs.Stores.{put-read, length-put, other-tags-stay}
+use Rattle.manual.specs.declared.Cap.{Cap}
+use Rattle.manual.specs.Cap.{permits, LOAD-CAPABILITY}
+use Rattle.manual.specs.Narrow.{null, incOffset}
+use Rattle.manual.specs.declared.LoadedCap.{LoadedCap}
+use Rattle.manual.specs.Line.{encode, decode, fromWords, capIn, loadCap}
+use Rattle.manual.proofs.Lines.{length-encode}
+use Rattle.manual.specs.Word.{field25, field20, field15, field10}
+use Rattle.manual.specs.declared.Effect.{Effect}
+use Rattle.manual.specs.declared.Planned.{Planned}
 use Rattle.manual.specs.declared.Operands.{Operands}
-use Rattle.core.specs.declared.Pending.{Pending}
+use Rattle.manual.specs.declared.Pending.{Pending}
 use Rattle.manual.specs.declared.Change.{Change}
 use Rattle.manual.specs.declared.Turn.{Turn}
 use Rattle.manual.specs.Perform.{quiet, loadedTurn, storedTurn, capTurn, turnOf, ramOf, tagsOf}
 use Rattle.manual.specs.Act.{plannedOf, doneTurn, doneRam, doneTags}
-use Rattle.fetch.specs.Fetch.{wordOf}
-use Rattle.core.specs.Registers.{isPending}
-use Rattle.core.specs.declared.Machine.{Machine}
-use Rattle.state.specs.State.{capability, operandsOf, nextPcc, commit}
-use Rattle.state.specs.Steps.{fetchedBy, turnAt, ramAt, tagsAt}
+use Rattle.manual.specs.Fetch.{wordOf}
+use Rattle.manual.specs.Registers.{isPending}
+use Rattle.manual.specs.declared.Machine.{Machine}
+use Rattle.manual.specs.State.{capability, operandsOf, nextPcc, commit}
+use Rattle.manual.specs.Steps.{fetchedBy, turnAt, ramAt, tagsAt}
 use Rattle.isolation.specs.Reach.{Memories, Spans, lineCap, Held, inRegister, inPcc, inPending, Writes, byStore, byStoreCapability, CanLoad, CanWrite}
 use Rattle.isolation.specs.Agree.{Under, Kept}
 use Rattle.isolation.proofs.Ranges.{Fits, Narrows, covers-span, inside-span, inside-trans, narrows-offset}

@@ -10,8 +10,8 @@ use lib.Dec.{eqb, leb}
 use borrow.Author.Tests.{eqb-true}
 use lib.ListN.{length, getD, set, take, drop, length-set, length-take, length-drop}
 use lib.Seq.{sets, getD-take, getD-drop, ext-getD}
-use Rattle.store.specs.Store.{bit, put, tagOf, withTag}
-use Rattle.store.proofs.Stores.{others-stay}
+use Rattle.manual.specs.Store.{bit, put, tagOf, withTag}
+use Rattle.manual.proofs.Stores.{others-stay}
 
 pub never : (A : Type 0) → false ≡ true → A
 never A e = let z : _≡_ {A = ℕ} 0 1 = cc in absurd (omega arith)

@@ -7,23 +7,23 @@ use native.Mathlib.Omega.{arith}
 use borrow.Author.Tests.{eqb-true, leb-true}
 use lib.Dec.{eqb, leb}
 use lib.IntN.{ℤ, pos, negsuc}
-use Rattle.num.specs.declared.Address.{Address}
-use Rattle.num.specs.declared.Offset.{Offset}
-use Rattle.num.specs.declared.Size.{Size}
-use Rattle.num.specs.Number.{LINE, bytesIn}
-use Rattle.cap.specs.declared.Cap.{Cap}
-use Rattle.cap.specs.Cap.{permits, LOAD, STORE, LOAD-CAPABILITY, STORE-CAPABILITY}
-use Rattle.narrow.specs.Narrow.{null, andPerms, incBase, incOffset, setOffset, setLength, fromPtr, sealedBy, unsealedBy}
-use Rattle.access.specs.declared.Access.{Access}
-use Rattle.access.specs.Access as Test
-use Rattle.access.specs.Access.{accessOf, placedAt, placedFrom, sumOf}
-use Rattle.isa.specs.declared.Instr.{Instr}
-use Rattle.isa.specs.Decode.{decodeWord, isJumpWord}
-use Rattle.checks.specs.declared.Fault.{Fault}
-use Rattle.checks.specs.declared.Effect.{Effect}
-use Rattle.checks.specs.declared.Planned.{Planned}
-use Rattle.checks.specs.declared.Named.{Named}
-use Rattle.checks.specs.Checks.{Checked, ok, fail, guard, fork, settle}
+use Rattle.manual.specs.declared.Address.{Address}
+use Rattle.manual.specs.declared.Offset.{Offset}
+use Rattle.manual.specs.declared.Size.{Size}
+use Rattle.manual.specs.Number.{LINE, bytesIn}
+use Rattle.manual.specs.declared.Cap.{Cap}
+use Rattle.manual.specs.Cap.{permits, LOAD, STORE, LOAD-CAPABILITY, STORE-CAPABILITY}
+use Rattle.manual.specs.Narrow.{null, andPerms, incBase, incOffset, setOffset, setLength, fromPtr, sealedBy, unsealedBy}
+use Rattle.manual.specs.declared.Access.{Access}
+use Rattle.manual.specs.Access as Test
+use Rattle.manual.specs.Access.{accessOf, placedAt, placedFrom, sumOf}
+use Rattle.manual.specs.declared.Instr.{Instr}
+use Rattle.manual.specs.Decode.{decodeWord, isJumpWord}
+use Rattle.manual.specs.declared.Fault.{Fault}
+use Rattle.manual.specs.declared.Effect.{Effect}
+use Rattle.manual.specs.declared.Planned.{Planned}
+use Rattle.manual.specs.declared.Named.{Named}
+use Rattle.manual.specs.Checks.{Checked, ok, fail, guard, fork, settle}
 use Rattle.manual.specs.Derive.{isZero, cGetPCC, cAndPerm, cClearTag, cIncBase, cSetLen, cSetOffset, cIncOffset, cFromPtr}
 use Rattle.manual.specs.Seal.{cSeal, cUnseal}
 use Rattle.manual.specs.Inspect.{get, cGetCause, cSetCause, cToPtr, cCheckPerm, cCheckType}
@@ -33,7 +33,7 @@ use Rattle.manual.specs.Branch.{branch, branchTag, branchTo}
 use Rattle.manual.specs.Transfer.{lies, load, store, cLC, cSC}
 use Rattle.manual.specs.declared.Operands.{Operands}
 use Rattle.manual.specs.Plan.{planOf}
-use Rattle.fetch.specs.declared.Fetched.{Fetched}
+use Rattle.manual.specs.declared.Fetched.{Fetched}
 use Rattle.manual.specs.Act.{plannedOf}
 use Rattle.isolation.specs.Reach.{Spans}
 use Rattle.isolation.proofs.Lists.{never}

@@ -6,10 +6,10 @@ use native.Mathlib.Omega.{arith}
 use borrow.Author.Tests.{eqb-true, eq-eqb}
 use lib.Bits.{bitAnd, and-shr, and-step, and-le-l}
 use lib.Pow.{shr-shr}
-use Rattle.num.specs.Number.{plusMod, minusMod}
-use Rattle.cap.specs.declared.Cap.{Cap}
-use Rattle.cap.specs.Cap.{permitted, GLOBAL}
-use Rattle.narrow.specs.Narrow.{andPerms, andGlobal, incBase, incOffset, sealedBy, unsealedBy}
+use Rattle.manual.specs.Number.{plusMod, minusMod}
+use Rattle.manual.specs.declared.Cap.{Cap}
+use Rattle.manual.specs.Cap.{permitted, GLOBAL}
+use Rattle.manual.specs.Narrow.{andPerms, andGlobal, incBase, incOffset, sealedBy, unsealedBy}
 use Rattle.isolation.specs.Reach.{Covers, Spans}
 use Rattle.isolation.specs.Agree.{Inside}
 

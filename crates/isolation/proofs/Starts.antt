@@ -8,16 +8,16 @@ use native.Mathlib.Decide.{decLt}
 use borrow.Author.Tests.{eqb-true, eq-eqb, ltb-true, ltb-false, not-true}
 use lib.Dec.{ltb}
 use lib.ListN.{length, getD, take, drop, List·getD-eq-default}
-use Rattle.num.specs.Number.{LINE}
-use Rattle.store.specs.Store.{tagOf}
-use Rattle.cap.specs.declared.Cap.{Cap}
-use Rattle.line.specs.Line.{decode, fromWords, capIn}
-use Rattle.core.specs.declared.Pending.{Pending}
-use Rattle.accept.specs.Accept.{topFits, jumpFits, loadedFits, widthFits, jumpWidth}
-use Rattle.checks.proofs.Tests.{both-true}
-use Rattle.accept.proofs.Accepted.{whole-lines, few-lines, cap-top, pcc-top, jump-top, cap-width, pcc-width, jump-width, line-top, bytes-32, loaded-top}
-use Rattle.core.specs.declared.Machine.{Machine}
-use Rattle.state.specs.State.{capability}
+use Rattle.manual.specs.Number.{LINE}
+use Rattle.manual.specs.Store.{tagOf}
+use Rattle.manual.specs.declared.Cap.{Cap}
+use Rattle.manual.specs.Line.{decode, fromWords, capIn}
+use Rattle.manual.specs.declared.Pending.{Pending}
+use Rattle.manual.specs.Accept.{topFits, jumpFits, loadedFits, widthFits, jumpWidth}
+use Rattle.manual.proofs.Tests.{both-true}
+use Rattle.manual.proofs.Accepted.{whole-lines, few-lines, cap-top, pcc-top, jump-top, cap-width, pcc-width, jump-width, line-top, bytes-32, loaded-top}
+use Rattle.manual.specs.declared.Machine.{Machine}
+use Rattle.manual.specs.State.{capability}
 use Rattle.isolation.specs.Reach.{Memories, lineCap, Held, inRegister, inPcc, inPending}
 use Rattle.isolation.specs.Claims.{Accepted}
 use Rattle.isolation.proofs.Ranges.{Fits}

@@ -5,13 +5,13 @@ use mathlib.Core.Bool.{Bool, true, false}
 use mathlib.Core.List.{List}
 use native.Mathlib.Omega.{arith}
 use lib.ListN.{length}
-use Rattle.num.specs.Number.{toBe, plusMod}
-use Rattle.store.specs.Store.{bit}
-use Rattle.num.proofs.Numbers.{length-toBe, be-toBe}
-use Rattle.cap.specs.declared.Cap.{Cap}
-use Rattle.line.specs.Line.{firstWord, encode, word, fromWords, decode}
+use Rattle.manual.specs.Number.{toBe, plusMod}
+use Rattle.manual.specs.Store.{bit}
+use Rattle.manual.proofs.Numbers.{length-toBe, be-toBe}
+use Rattle.manual.specs.declared.Cap.{Cap}
+use Rattle.manual.specs.Line.{firstWord, encode, word, fromWords, decode}
 use Rattle.isolation.proofs.Ranges.{Narrows}
-use Rattle.line.proofs.Lines.{quarter0, quarter2, quarter3}
+use Rattle.manual.proofs.Lines.{quarter0, quarter2, quarter3}
 
 module _ (c : Cap) where
   abbrev first : List ℕ

@@ -3,14 +3,14 @@ use Prim.Native.Nat.{ℕ, zero, suc, _+_}
 use mathlib.Core.Path.{_≡_, refl, sym, ap, subst, _∙_}
 use mathlib.Core.Bool.{true}
 use native.Mathlib.Omega.{arith}
-use Rattle.cap.specs.declared.Cap.{Cap}
-use Rattle.cap.specs.Cap.{LOAD-CAPABILITY}
+use Rattle.manual.specs.declared.Cap.{Cap}
+use Rattle.manual.specs.Cap.{LOAD-CAPABILITY}
 use Rattle.manual.specs.declared.Turn.{Turn}
 use Rattle.manual.specs.declared.Turn.the-variants.{Next, Stops}
-use Rattle.core.specs.declared.Machine.{Machine}
-use Rattle.state.specs.State.{commit, stoppedAt}
-use Rattle.state.specs.Steps.{Result, turnAt, runFrom}
-use Rattle.state.specs.Run.{judged, runOf}
+use Rattle.manual.specs.declared.Machine.{Machine}
+use Rattle.manual.specs.State.{commit, stoppedAt}
+use Rattle.manual.specs.Steps.{Result, turnAt, runFrom}
+use Rattle.manual.specs.Run.{judged, runOf}
 use Rattle.isolation.specs.Reach.{Memories, Held, inRegister, inPcc, inPending, Reach, held, line, CanLoad}
 use Rattle.isolation.specs.Agree.{Agree, Alike, Under, Kept, left}
 use Rattle.isolation.specs.Claims.{ran, Accepted, Confined, SameReach, NoGrowth, NothingOutside}

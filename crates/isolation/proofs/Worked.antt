@@ -8,14 +8,14 @@ use native.Mathlib.Omega.{arith}
 use native.Mathlib.Decide.{decLt, ℕ-discrete}
 use lib.ListN.{getD, set, replicate, getD-replicate, length-replicate, List·getD-eq-default}
 use lib.Seq.{getD-set-other}
-use Rattle.num.specs.Number.{LINE, be, toBe}
-use Rattle.mem.specs.Place.{RAM-BASE, placeOf, bytesOf}
-use Rattle.store.specs.Store.{tagOf}
-use Rattle.cap.specs.declared.Cap.{Cap}
-use Rattle.cap.specs.Cap.{permitted}
-use Rattle.narrow.specs.Narrow.{null}
-use Rattle.line.specs.Line.{word, fromWords, decode, capIn, loadCap}
-use Rattle.accept.specs.Accept.{every, verdictOf}
+use Rattle.manual.specs.Number.{LINE, be, toBe}
+use Rattle.manual.specs.Place.{RAM-BASE, placeOf, bytesOf}
+use Rattle.manual.specs.Store.{tagOf}
+use Rattle.manual.specs.declared.Cap.{Cap}
+use Rattle.manual.specs.Cap.{permitted}
+use Rattle.manual.specs.Narrow.{null}
+use Rattle.manual.specs.Line.{word, fromWords, decode, capIn, loadCap}
+use Rattle.manual.specs.Accept.{every, verdictOf}
 use Rattle.isolation.specs.Reach.{Covers, Spans, lineAddress, inRegister, inPcc, inPending, Reach, held, line, byLoad, CanRead, CanLoad}
 use Rattle.isolation.specs.Agree.{Agree}
 use Rattle.isolation.specs.Claims.{Accepted}

@@ -3,12 +3,12 @@ use Prim.Native.Nat.{ℕ, _+_, _<_}
 use mathlib.Core.Path.{_≡_}
 use mathlib.Core.Bool.{true}
 use lib.ListN.{length, getD}
-use Rattle.num.specs.Number.{LINE}
-use Rattle.mem.specs.Place.{RAM-BASE}
-use Rattle.store.specs.Store.{tagOf}
-use Rattle.cap.specs.declared.Cap.{Cap}
-use Rattle.cap.specs.Cap.{permits}
-use Rattle.state.specs.Steps.{Result}
+use Rattle.manual.specs.Number.{LINE}
+use Rattle.manual.specs.Place.{RAM-BASE}
+use Rattle.manual.specs.Store.{tagOf}
+use Rattle.manual.specs.declared.Cap.{Cap}
+use Rattle.manual.specs.Cap.{permits}
+use Rattle.manual.specs.Steps.{Result}
 use Rattle.isolation.specs.Reach.{Memories, Covers, lineAddress, CanRead, CanLoad, CanWrite}
 
 -- the memories that a run leaves: no step writes flash

@@ -3,12 +3,12 @@ use Prim.Native.Nat.{ℕ}
 use mathlib.Core.Path.{_≡_}
 use mathlib.Core.Logic.{_↔_}
 use lib.ListN.{length, getD}
-use Rattle.cap.specs.declared.Cap.{Cap}
-use Rattle.told.specs.declared.Verdict.{Verdict}
-use Rattle.accept.specs.Accept.{verdictOf}
-use Rattle.core.specs.declared.Machine.{Machine}
-use Rattle.state.specs.Steps.{Result}
-use Rattle.state.specs.Run.{runOf}
+use Rattle.manual.specs.declared.Cap.{Cap}
+use Rattle.manual.specs.declared.Verdict.{Verdict}
+use Rattle.manual.specs.Accept.{verdictOf}
+use Rattle.manual.specs.declared.Machine.{Machine}
+use Rattle.manual.specs.Steps.{Result}
+use Rattle.manual.specs.Run.{runOf}
 use Rattle.isolation.specs.Reach.{Memories, Reach}
 use Rattle.isolation.specs.Agree.{Agree, Alike, Under, Kept, left}
 

@@ -4,15 +4,15 @@ use mathlib.Core.Path.{_≡_}
 use mathlib.Core.Bool.{true}
 use mathlib.Core.List.{List}
 use lib.ListN.{take, drop}
-use Rattle.num.specs.Number.{LINE}
-use Rattle.mem.specs.Place.{RAM-BASE}
-use Rattle.store.specs.Store.{tagOf}
-use Rattle.cap.specs.declared.Cap.{Cap}
-use Rattle.cap.specs.Cap.{permits, EXECUTE, LOAD, STORE, LOAD-CAPABILITY, STORE-CAPABILITY}
-use Rattle.line.specs.Line.{decode}
-use Rattle.core.specs.declared.Pending.{Pending}
-use Rattle.core.specs.declared.Machine.{Machine}
-use Rattle.state.specs.State.{capability}
+use Rattle.manual.specs.Number.{LINE}
+use Rattle.manual.specs.Place.{RAM-BASE}
+use Rattle.manual.specs.Store.{tagOf}
+use Rattle.manual.specs.declared.Cap.{Cap}
+use Rattle.manual.specs.Cap.{permits, EXECUTE, LOAD, STORE, LOAD-CAPABILITY, STORE-CAPABILITY}
+use Rattle.manual.specs.Line.{decode}
+use Rattle.manual.specs.declared.Pending.{Pending}
+use Rattle.manual.specs.declared.Machine.{Machine}
+use Rattle.manual.specs.State.{capability}
 
 -- the memories that a caller lends
 pub record Memories : Type 0 where

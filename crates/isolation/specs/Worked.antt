@@ -4,13 +4,13 @@ use mathlib.Core.Path.{_≡_}
 use mathlib.Core.Bool.{true, false}
 use mathlib.Core.List.{List, [], _∷_, _++_}
 use lib.ListN.{replicate, set}
-use Rattle.num.specs.Number.{toBe}
-use Rattle.mem.specs.Place.{RAM-BASE}
-use Rattle.cap.specs.declared.Cap.{Cap}
-use Rattle.cap.specs.Cap.{EXECUTE, LOAD, LOAD-CAPABILITY}
-use Rattle.narrow.specs.Narrow.{null}
-use Rattle.core.specs.declared.Pending.{Pending}
-use Rattle.core.specs.declared.Machine.{Machine}
+use Rattle.manual.specs.Number.{toBe}
+use Rattle.manual.specs.Place.{RAM-BASE}
+use Rattle.manual.specs.declared.Cap.{Cap}
+use Rattle.manual.specs.Cap.{EXECUTE, LOAD, LOAD-CAPABILITY}
+use Rattle.manual.specs.Narrow.{null}
+use Rattle.manual.specs.declared.Pending.{Pending}
+use Rattle.manual.specs.declared.Machine.{Machine}
 use Rattle.isolation.specs.Reach.{Memories, Reach, CanRead}
 use Rattle.isolation.specs.Agree.{Alike}
 use Rattle.isolation.specs.Claims.{ran, Accepted}

@@ -3,10 +3,10 @@ use Prim.Native.Nat.{ℕ, _+_, _%_, _^_}
 use mathlib.Core.Path.{_≡_, ap}
 use native.Mathlib.Omega.{arith}
 use lib.Dec.{eqb}
-use Rattle.num.specs.Number.{plusMod, addressAt}
-use Rattle.num.specs.declared.Address.{Address}
-use Rattle.num.specs.declared.Offset.{Offset}
-use Rattle.access.specs.Access.{aligned}
+use Rattle.manual.specs.Number.{plusMod, addressAt}
+use Rattle.manual.specs.declared.Address.{Address}
+use Rattle.manual.specs.declared.Offset.{Offset}
+use Rattle.manual.specs.Access.{aligned}
 
 -- an address mod 2^64 is aligned as the exact sum is
 pub aligned-at : (a base : Address) (o : Offset) → a ≡ addressAt base o → aligned (a .0) 4 ≡ aligned (base .0 + o .0) 4

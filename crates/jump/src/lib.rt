@@ -1,15 +1,15 @@
 // Branches, jumps and the two instructions that only raise (004, chapter 4).
-use cap::Cap;
-use checks::Check;
-use checks::Effect;
-use checks::Fault;
-use checks::LENGTH;
-use checks::NO_REGISTER;
-use checks::Named;
-use checks::Planned;
-use num::Size;
+use manual::Cap;
+use manual::Check;
+use manual::Effect;
+use manual::Fault;
+use manual::LENGTH;
+use manual::NO_REGISTER;
+use manual::Named;
+use manual::Planned;
+use manual::Size;
 ghost use mathlib.Core.Path.{_≡_};
-ghost use Rattle.checks.specs.Checks.{settle};
+ghost use Rattle.manual.specs.Checks.{settle};
 ghost use Rattle.manual.specs.Jump.{cJR, cJALR, cCall, cReturn};
 
 // What CJR and CJALR ask of their target.
@@ -52,11 +52,11 @@ pub fn cjalr(pcc: Cap, cd: u8, cb: Named) -> Planned
 pub fn ccall(cs: u8) -> Planned
     ensures { λ r. ⌜ r ≡ settle (cCall cs) ⌝ }
 {
-    Planned::Fails(Fault::Raise(checks::CALL, cs))
+    Planned::Fails(Fault::Raise(manual::CALL, cs))
 }
 
 pub fn creturn() -> Planned
     ensures { λ r. ⌜ r ≡ settle cReturn ⌝ }
 {
-    Planned::Fails(Fault::Raise(checks::RETURN, NO_REGISTER))
+    Planned::Fails(Fault::Raise(manual::RETURN, NO_REGISTER))
 }

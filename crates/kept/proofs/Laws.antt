@@ -8,29 +8,29 @@ use borrow.Author.Tests.{eqb-true, eq-eqb, ltb-true, ltb-false}
 use lib.ListN.{length, take, drop, getD, length-take, List·getD-eq-default}
 use lib.Dec.{eqb, ltb}
 use lib.Seq.{getD-drop, getD-take}
-use Rattle.num.specs.declared.Address.{Address}
-use Rattle.mem.specs.declared.Place.{Place}
-use Rattle.mem.specs.declared.Place.the-variants.{Flash, Ram, Nowhere}
-use Rattle.num.specs.Number.{LINE, Bytes}
-use Rattle.mem.specs.Place.{tagsFit, partOf, bytesOf, placeIn}
-use Rattle.store.specs.Store.{put, withTag, tagAt, answerAt}
-use Rattle.mem.proofs.Places.{ram-holds}
-use Rattle.store.proofs.Stores.{put-read, length-put, tag-is-set}
-use Rattle.cap.specs.declared.Cap.{Cap}
-use Rattle.cap.specs.Cap.{Within}
-use Rattle.narrow.specs.Narrow.{null}
-use Rattle.line.specs.declared.LoadedCap.{LoadedCap}
-use Rattle.line.specs.Line.{encode, fromWords, decode, capIn, loadCap}
-use Rattle.line.proofs.Lines.{cap-is-kept, bits-are-kept, length-encode}
-use Rattle.checks.specs.declared.Fault.{Fault}
-use Rattle.checks.specs.declared.Effect.{Effect}
-use Rattle.core.specs.declared.Pending.{Pending}
+use Rattle.manual.specs.declared.Address.{Address}
+use Rattle.manual.specs.declared.Place.{Place}
+use Rattle.manual.specs.declared.Place.the-variants.{Flash, Ram, Nowhere}
+use Rattle.manual.specs.Number.{LINE, Bytes}
+use Rattle.manual.specs.Place.{tagsFit, partOf, bytesOf, placeIn}
+use Rattle.manual.specs.Store.{put, withTag, tagAt, answerAt}
+use Rattle.manual.proofs.Places.{ram-holds}
+use Rattle.manual.proofs.Stores.{put-read, length-put, tag-is-set}
+use Rattle.manual.specs.declared.Cap.{Cap}
+use Rattle.manual.specs.Cap.{Within}
+use Rattle.manual.specs.Narrow.{null}
+use Rattle.manual.specs.declared.LoadedCap.{LoadedCap}
+use Rattle.manual.specs.Line.{encode, fromWords, decode, capIn, loadCap}
+use Rattle.manual.proofs.Lines.{cap-is-kept, bits-are-kept, length-encode}
+use Rattle.manual.specs.declared.Fault.{Fault}
+use Rattle.manual.specs.declared.Effect.{Effect}
+use Rattle.manual.specs.declared.Pending.{Pending}
 use Rattle.manual.specs.declared.Change.{Change}
 use Rattle.manual.specs.declared.Turn.{Turn}
 use Rattle.manual.specs.Perform.{toCapability, storedTurn, capTurn, turnOf, ramOf, tagsOf}
-use Rattle.core.specs.declared.Machine.{Machine}
-use Rattle.state.specs.State.{operandsOf}
-use Rattle.state.specs.Steps.{turnAt, ramAt, tagsAt}
+use Rattle.manual.specs.declared.Machine.{Machine}
+use Rattle.manual.specs.State.{operandsOf}
+use Rattle.manual.specs.Steps.{turnAt, ramAt, tagsAt}
 use Rattle.kept.specs.Kept.{Plans, StoredAndLoaded, LoadedAndStored}
 
 no-turn : (A : Type 0) (f : Fault) (d : Change) → Turn.Stops f ≡ Turn.Next d → A

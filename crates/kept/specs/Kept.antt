@@ -4,24 +4,24 @@ use mathlib.Core.Path.{_≡_}
 use mathlib.Core.Bool.{true}
 use mathlib.Core.List.{List}
 use lib.ListN.{length}
-use Rattle.num.specs.declared.Address.{Address}
-use Rattle.num.specs.Number.{Bytes}
-use Rattle.mem.specs.Place.{tagsFit, bytesOf, placeIn}
-use Rattle.store.specs.Store.{tagAt}
-use Rattle.cap.specs.declared.Cap.{Cap}
-use Rattle.cap.specs.Cap.{Within}
-use Rattle.checks.specs.declared.Effect.{Effect}
-use Rattle.checks.specs.declared.Planned.{Planned}
-use Rattle.core.specs.declared.Pending.{Pending}
+use Rattle.manual.specs.declared.Address.{Address}
+use Rattle.manual.specs.Number.{Bytes}
+use Rattle.manual.specs.Place.{tagsFit, bytesOf, placeIn}
+use Rattle.manual.specs.Store.{tagAt}
+use Rattle.manual.specs.declared.Cap.{Cap}
+use Rattle.manual.specs.Cap.{Within}
+use Rattle.manual.specs.declared.Effect.{Effect}
+use Rattle.manual.specs.declared.Planned.{Planned}
+use Rattle.manual.specs.declared.Pending.{Pending}
 use Rattle.manual.specs.declared.Change.{Change}
 use Rattle.manual.specs.declared.Turn.{Turn}
 use Rattle.manual.specs.Perform.{toCapability}
 use Rattle.manual.specs.Act.{plannedOf}
-use Rattle.fetch.specs.Fetch.{wordOf}
-use Rattle.core.specs.Registers.{isPending}
-use Rattle.core.specs.declared.Machine.{Machine}
-use Rattle.state.specs.State.{operandsOf}
-use Rattle.state.specs.Steps.{fetchedBy, turnAt, ramAt, tagsAt}
+use Rattle.manual.specs.Fetch.{wordOf}
+use Rattle.manual.specs.Registers.{isPending}
+use Rattle.manual.specs.declared.Machine.{Machine}
+use Rattle.manual.specs.State.{operandsOf}
+use Rattle.manual.specs.Steps.{fetchedBy, turnAt, ramAt, tagsAt}
 
 -- the checks of this machine's step pass, and this is its effect
 abbrev pub Plans : List ℕ → Machine → List ℕ → Effect → Type 0

@@ -1,16 +1,11 @@
 // A capability in the 32 bytes of a line, and back (01, "A capability").
-use cap::Cap;
-use num::Address;
-use num::LINE;
+use manual::Address;
+use manual::Cap;
+use manual::LINE;
+use manual::LoadedCap;
 ghost use mathlib.Core.Path.{_≡_};
 ghost use lib.ListN.{length};
-ghost use Rattle.line.specs.Claims.{CapIsKept, BitsAreKept};
-ghost use Rattle.line.specs.Line.{decode, capIn, loadCap};
-
-pub enum LoadedCap {
-    Value(Cap),
-    Nowhere,
-}
+ghost use Rattle.manual.specs.Line.{decode, capIn, loadCap};
 
 // The capability that 32 bytes hold, with this tag.
 fn read_line(line: &[u8], tag: bool) -> Cap
@@ -50,13 +45,7 @@ pub fn load<'a>(flash: &'a [u8], ram: &'a [u8], tags: &[u8], a: Address) -> Load
     ensures { λ r. ⌜ r ≡ loadCap (now (flash .entry)) (now (ram .entry)) (now (tags .entry)) a ⌝ }
 {
     let place = mem::place_of(flash.len(), ram.len(), a, LINE);
-    let tag = store::tag_at(tags, place);
+    let tag = tags::tag_at(tags, place);
     let part = mem::bytes_of(flash, ram, a, LINE);
     cap_in(part, tag)
 }
-
-// What the definitions promise of a capability's bytes.
-pub fn claims()
-    ensures cap_is_kept { λ _. ⌜ CapIsKept ⌝ }
-    ensures bits_are_kept { λ _. ⌜ BitsAreKept ⌝ }
-{}

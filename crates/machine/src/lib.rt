@@ -1,9 +1,9 @@
 // The machine runs: it judges its start, makes its steps, and is its definition for every input.
-use core::Machine;
-use state::Outcome;
-use told::Verdict;
+use manual::Machine;
+use manual::Outcome;
+use manual::Verdict;
 ghost use mathlib.Core.Path.{_≡_};
-ghost use Rattle.state.specs.Run.{runOf};
+ghost use Rattle.manual.specs.Run.{runOf};
 
 // A run: the start is judged first, and a refused one comes back as it came.
 pub fn run(m: Machine, flash: &[u8], ram: &mut [u8], tags: &mut [u8], budget: u32) -> Outcome

@@ -4,18 +4,18 @@ use mathlib.Core.Path.{_≡_, refl}
 use mathlib.Core.Bool.{Bool}
 use mathlib.Core.List.{List}
 use native.Mathlib.Omega.{arith}
-use Rattle.mem.specs.declared.Place.{Place}
-use Rattle.mem.specs.declared.Place.the-variants.{Flash, Ram, Nowhere}
-use Rattle.num.specs.Number.{bytesIn}
-use Rattle.store.specs.Store.{answerAt, ramAfter, tagsAfter}
-use Rattle.cap.specs.declared.Cap.{Cap}
-use Rattle.checks.specs.declared.Fault.{Fault}
-use Rattle.checks.specs.declared.Effect.{Effect}
-use Rattle.checks.specs.declared.Planned.{Planned}
+use Rattle.manual.specs.declared.Place.{Place}
+use Rattle.manual.specs.declared.Place.the-variants.{Flash, Ram, Nowhere}
+use Rattle.manual.specs.Number.{bytesIn}
+use Rattle.manual.specs.Store.{answerAt, ramAfter, tagsAfter}
+use Rattle.manual.specs.declared.Cap.{Cap}
+use Rattle.manual.specs.declared.Fault.{Fault}
+use Rattle.manual.specs.declared.Effect.{Effect}
+use Rattle.manual.specs.declared.Planned.{Planned}
 use Rattle.manual.specs.declared.Operands.{Operands}
 use Rattle.manual.specs.declared.Turn.{Turn}
 use Rattle.manual.specs.Perform.{storedTurn, turnOf, ramOf, tagsOf}
-use Rattle.mem.specs.Place.{placeIn}
+use Rattle.manual.specs.Place.{placeIn}
 use Rattle.manual.specs.Act.{doneTurn, doneRam, doneTags}
 
 -- a store that did not go into RAM

@@ -1,2 +1,15 @@
+pub mod Accepted
+pub mod Arms
+pub mod Calls
+pub mod Chains
 pub mod Keeps
+pub mod Lines
+pub mod Narrows
+pub mod Numbers
+pub mod Places
+pub mod Runs
+pub mod Scans
+pub mod Stores
+pub mod Sums
+pub mod Tests
 pub mod Worked

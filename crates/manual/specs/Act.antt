@@ -2,14 +2,14 @@
 use Prim.Native.Nat.{ℕ}
 use mathlib.Core.Bool.{Bool, cond, _&&_}
 use mathlib.Core.List.{List}
-use Rattle.isa.specs.Decode.{decodeWord, isJumpWord}
-use Rattle.checks.specs.declared.Fault.{Fault}
-use Rattle.checks.specs.declared.Planned.{Planned}
-use Rattle.checks.specs.Checks.{settle}
+use Rattle.manual.specs.Decode.{decodeWord, isJumpWord}
+use Rattle.manual.specs.declared.Fault.{Fault}
+use Rattle.manual.specs.declared.Planned.{Planned}
+use Rattle.manual.specs.Checks.{settle}
 use Rattle.manual.specs.declared.Operands.{Operands}
 use Rattle.manual.specs.Plan.{planOf}
 use Rattle.manual.specs.declared.Turn.{Turn}
-use Rattle.fetch.specs.declared.Fetched.{Fetched}
+use Rattle.manual.specs.declared.Fetched.{Fetched}
 use Rattle.manual.specs.Perform.{turnOf, ramOf, tagsOf}
 
 -- a step tests fetch, then 7, then 4, then the instruction's own

@@ -2,13 +2,13 @@
 use Prim.Native.Nat.{ℕ, _+_, _-_, _*_, _%_, _^_}
 use mathlib.Core.Bool.{Bool, cond, not}
 use lib.Dec.{eqb, leb, ltb}
-use Rattle.num.specs.declared.Offset.{Offset}
-use Rattle.num.specs.Number.{movedBy}
-use Rattle.cap.specs.declared.Cap.{Cap}
-use Rattle.narrow.specs.Narrow.{setOffset}
-use Rattle.checks.specs.declared.Named.{Named}
-use Rattle.checks.specs.declared.Effect.{Effect}
-use Rattle.checks.specs.Checks.{Checked, ok, fork, that, opened, LENGTH, NO-REGISTER, _>>_}
+use Rattle.manual.specs.declared.Offset.{Offset}
+use Rattle.manual.specs.Number.{movedBy}
+use Rattle.manual.specs.declared.Cap.{Cap}
+use Rattle.manual.specs.Narrow.{setOffset}
+use Rattle.manual.specs.declared.Named.{Named}
+use Rattle.manual.specs.declared.Effect.{Effect}
+use Rattle.manual.specs.Checks.{Checked, ok, fork, that, opened, LENGTH, NO-REGISTER, _>>_}
 
 abbrev pub wanted : Bool → Bool → Bool
 wanted want test = cond want test (not test)

@@ -2,14 +2,14 @@
 use Prim.Native.Nat.{ℕ}
 use mathlib.Core.Bool.{Bool, cond, not, _&&_, _||_}
 use lib.Dec.{eqb, ltb}
-use Rattle.num.specs.Number.{addressAt}
-use Rattle.store.specs.Store.{bit}
-use Rattle.cap.specs.declared.Cap.{Cap}
-use Rattle.isa.specs.declared.Compare.{Compare}
-use Rattle.compute.specs.Compute.{signedLess}
-use Rattle.checks.specs.declared.Named.{Named}
-use Rattle.checks.specs.declared.Effect.{Effect}
-use Rattle.checks.specs.Checks.{Checked, ok, opened, _>>_}
+use Rattle.manual.specs.Number.{addressAt}
+use Rattle.manual.specs.Store.{bit}
+use Rattle.manual.specs.declared.Cap.{Cap}
+use Rattle.manual.specs.declared.Compare.{Compare}
+use Rattle.manual.specs.Compute.{signedLess}
+use Rattle.manual.specs.declared.Named.{Named}
+use Rattle.manual.specs.declared.Effect.{Effect}
+use Rattle.manual.specs.Checks.{Checked, ok, opened, _>>_}
 
 abbrev pub sameBool : Bool → Bool → Bool
 sameBool a b = cond a b (not b)

@@ -3,12 +3,12 @@
 use Prim.Native.Nat.{ℕ}
 use mathlib.Core.Bool.{Bool, not, _&&_, _||_}
 use lib.Dec.{eqb, leb}
-use Rattle.cap.specs.declared.Cap.{Cap}
-use Rattle.cap.specs.Cap as Cap
-use Rattle.narrow.specs.Narrow.{andPerms, clearTag, incBase, setLength, setOffset, incOffset, fromPtr}
-use Rattle.checks.specs.declared.Named.{Named}
-use Rattle.checks.specs.declared.Effect.the-variants.{Capability}
-use Rattle.checks.specs.Checks.{Checked, ok, that, opened, tagged, unsealed, LENGTH, TAG, SEAL, _>>_}
+use Rattle.manual.specs.declared.Cap.{Cap}
+use Rattle.manual.specs.Cap as Cap
+use Rattle.manual.specs.Narrow.{andPerms, clearTag, incBase, setLength, setOffset, incOffset, fromPtr}
+use Rattle.manual.specs.declared.Named.{Named}
+use Rattle.manual.specs.declared.Effect.the-variants.{Capability}
+use Rattle.manual.specs.Checks.{Checked, ok, that, opened, tagged, unsealed, LENGTH, TAG, SEAL, _>>_}
 
 abbrev pub isZero : ℕ → Bool
 isZero n = eqb n 0

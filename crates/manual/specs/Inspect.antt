@@ -5,15 +5,15 @@ use mathlib.Core.Path.{_≡_}
 use mathlib.Core.Bool.{cond}
 use lib.Dec.{eqb}
 use lib.Bits.{bitAnd}
-use Rattle.num.specs.Number.{addressAt, offsetTo}
-use Rattle.store.specs.Store.{bit}
-use Rattle.cap.specs.declared.Cap.{Cap}
-use Rattle.cap.specs.Cap.{ACCESS-EPCC}
-use Rattle.isa.specs.declared.Field.{Field}
-use Rattle.checks.specs.declared.Check.{Check}
-use Rattle.checks.specs.declared.Named.{Named}
-use Rattle.checks.specs.declared.Effect.{Effect}
-use Rattle.checks.specs.Checks.{Checked, ok, finish, settle, that, opened, tagged, granted, SEAL, TYPE, USER, NO-REGISTER, _>>_}
+use Rattle.manual.specs.Number.{addressAt, offsetTo}
+use Rattle.manual.specs.Store.{bit}
+use Rattle.manual.specs.declared.Cap.{Cap}
+use Rattle.manual.specs.Cap.{ACCESS-EPCC}
+use Rattle.manual.specs.declared.Field.{Field}
+use Rattle.manual.specs.declared.Check.{Check}
+use Rattle.manual.specs.declared.Named.{Named}
+use Rattle.manual.specs.declared.Effect.{Effect}
+use Rattle.manual.specs.Checks.{Checked, ok, finish, settle, that, opened, tagged, granted, SEAL, TYPE, USER, NO-REGISTER, _>>_}
 
 abbrev pub fieldOf : Field → Cap → ℕ
 fieldOf Field.Base c = c .base .0

@@ -3,15 +3,15 @@
 use Prim.Native.Nat.{ℕ, _+_}
 use mathlib.Core.Path.{_≡_}
 use lib.Dec.{leb}
-use Rattle.cap.specs.declared.Cap.{Cap}
-use Rattle.cap.specs.Cap.{GLOBAL, EXECUTE}
-use Rattle.access.specs.Access.{aligned}
-use Rattle.narrow.specs.Narrow.{incOffset}
-use Rattle.checks.specs.declared.Named.{Named}
-use Rattle.checks.specs.declared.Fault.{Fault}
-use Rattle.checks.specs.declared.Effect.{Effect}
-use Rattle.checks.specs.declared.Check.{Check}
-use Rattle.checks.specs.Checks.{Checked, ok, fail, guard, finish, that, opened, tagged, unsealed, granted, LENGTH, CALL, RETURN, NO-REGISTER, _>>_}
+use Rattle.manual.specs.declared.Cap.{Cap}
+use Rattle.manual.specs.Cap.{GLOBAL, EXECUTE}
+use Rattle.manual.specs.Access.{aligned}
+use Rattle.manual.specs.Narrow.{incOffset}
+use Rattle.manual.specs.declared.Named.{Named}
+use Rattle.manual.specs.declared.Fault.{Fault}
+use Rattle.manual.specs.declared.Effect.{Effect}
+use Rattle.manual.specs.declared.Check.{Check}
+use Rattle.manual.specs.Checks.{Checked, ok, fail, guard, finish, that, opened, tagged, unsealed, granted, LENGTH, CALL, RETURN, NO-REGISTER, _>>_}
 
 -- what both jumps ask of their target; offset + 4 <= length exactly (ruling A23)
 abbrev pub jumpable : Named → Checked → Checked

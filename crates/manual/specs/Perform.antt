@@ -2,18 +2,18 @@
 use Prim.Native.Nat.{ℕ}
 use mathlib.Core.Bool.{Bool, false}
 use mathlib.Core.List.{List}
-use Rattle.num.specs.declared.Size.{Size}
-use Rattle.mem.specs.declared.Loaded.{Loaded}
-use Rattle.store.specs.declared.Stored.{Stored}
-use Rattle.num.specs.Number.{bytesIn, toBe, extended}
-use Rattle.mem.specs.Place.{loadOf, placeIn}
-use Rattle.store.specs.Store.{answerAt, ramAfter, tagsAfter}
-use Rattle.cap.specs.declared.Cap.{Cap}
-use Rattle.line.specs.declared.LoadedCap.{LoadedCap}
-use Rattle.line.specs.Line.{encode, loadCap}
-use Rattle.checks.specs.declared.Fault.{Fault}
-use Rattle.checks.specs.declared.Effect.{Effect}
-use Rattle.core.specs.declared.Pending.{Pending}
+use Rattle.manual.specs.declared.Size.{Size}
+use Rattle.manual.specs.declared.Loaded.{Loaded}
+use Rattle.manual.specs.declared.Stored.{Stored}
+use Rattle.manual.specs.Number.{bytesIn, toBe, extended}
+use Rattle.manual.specs.Place.{loadOf, placeIn}
+use Rattle.manual.specs.Store.{answerAt, ramAfter, tagsAfter}
+use Rattle.manual.specs.declared.Cap.{Cap}
+use Rattle.manual.specs.declared.LoadedCap.{LoadedCap}
+use Rattle.manual.specs.Line.{encode, loadCap}
+use Rattle.manual.specs.declared.Fault.{Fault}
+use Rattle.manual.specs.declared.Effect.{Effect}
+use Rattle.manual.specs.declared.Pending.{Pending}
 use Rattle.manual.specs.declared.Change.{Change}
 use Rattle.manual.specs.declared.Turn.{Turn}
 

@@ -1,11 +1,11 @@
 -- Each instruction on the registers that its word names (01, "Instruction words"): in major opcode 18 operands in the order of 004's
 -- Format line fill 20..16, 15..11, 10..6; a transfer has its register in 25..21, cb in 20..16 and rt in 15..11.
 use mathlib.Core.Bool.{false}
-use Rattle.isa.specs.declared.Instr.{Instr}
-use Rattle.checks.specs.declared.Effect.{Effect}
-use Rattle.checks.specs.declared.Fault.{Fault}
-use Rattle.checks.specs.Checks.{Checked, ok, fail}
-use Rattle.compute.specs.Compute.{computeOf}
+use Rattle.manual.specs.declared.Instr.{Instr}
+use Rattle.manual.specs.declared.Effect.{Effect}
+use Rattle.manual.specs.declared.Fault.{Fault}
+use Rattle.manual.specs.Checks.{Checked, ok, fail}
+use Rattle.manual.specs.Compute.{computeOf}
 use Rattle.manual.specs.Derive.{cGetPCC, cAndPerm, cClearTag, cIncBase, cSetLen, cSetOffset, cIncOffset, cFromPtr}
 use Rattle.manual.specs.Seal.{cSeal, cUnseal}
 use Rattle.manual.specs.Inspect.{get, cGetCause, cSetCause, cToPtr, cCheckPerm, cCheckType}

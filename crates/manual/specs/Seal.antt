@@ -1,12 +1,12 @@
 -- CSeal and CUnseal: one check a line, in the order of its page of 004, and the effect last.
 use Prim.Native.Nat.{ℕ, _+_, _^_}
 use lib.Dec.{eqb, ltb}
-use Rattle.cap.specs.declared.Cap.{Cap}
-use Rattle.cap.specs.Cap as Cap
-use Rattle.narrow.specs.Narrow.{sealedBy, unsealedBy}
-use Rattle.checks.specs.declared.Named.{Named}
-use Rattle.checks.specs.declared.Effect.the-variants.{Capability}
-use Rattle.checks.specs.Checks.{Checked, ok, that, opened, tagged, unsealed, granted, LENGTH, SEAL, TYPE, _>>_}
+use Rattle.manual.specs.declared.Cap.{Cap}
+use Rattle.manual.specs.Cap as Cap
+use Rattle.manual.specs.Narrow.{sealedBy, unsealedBy}
+use Rattle.manual.specs.declared.Named.{Named}
+use Rattle.manual.specs.declared.Effect.the-variants.{Capability}
+use Rattle.manual.specs.Checks.{Checked, ok, that, opened, tagged, unsealed, granted, LENGTH, SEAL, TYPE, _>>_}
 
 -- CSeal: Seal a Capability. Both Length tests name ct (ruling A17).
 unfoldable pub cSeal : Cap → ℕ → Named → Named → Checked

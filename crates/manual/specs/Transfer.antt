@@ -3,19 +3,19 @@
 use Prim.Native.Nat.{ℕ}
 use mathlib.Core.Path.{_≡_}
 use mathlib.Core.Bool.{Bool, _||_, not}
-use Rattle.num.specs.declared.Size.{Size}
-use Rattle.num.specs.declared.Size.the-variants.{Line}
-use Rattle.num.specs.declared.Address.{Address}
-use Rattle.num.specs.Number.{bytesIn}
-use Rattle.cap.specs.declared.Cap.{Cap}
-use Rattle.access.specs.declared.Access.{Access}
-use Rattle.cap.specs.Cap.{permits, GLOBAL, LOAD, STORE, LOAD-CAPABILITY, STORE-CAPABILITY, STORE-LOCAL}
-use Rattle.access.specs.Access.{accessOf}
-use Rattle.checks.specs.declared.Check.{Check}
-use Rattle.checks.specs.declared.Named.{Named}
-use Rattle.checks.specs.declared.Fault.{Fault}
-use Rattle.checks.specs.declared.Effect.{Effect}
-use Rattle.checks.specs.Checks.{Checked, ok, fail, finish, _>>_, that, opened, tagged, unsealed, granted, lacking, LENGTH}
+use Rattle.manual.specs.declared.Size.{Size}
+use Rattle.manual.specs.declared.Size.the-variants.{Line}
+use Rattle.manual.specs.declared.Address.{Address}
+use Rattle.manual.specs.Number.{bytesIn}
+use Rattle.manual.specs.declared.Cap.{Cap}
+use Rattle.manual.specs.declared.Access.{Access}
+use Rattle.manual.specs.Cap.{permits, GLOBAL, LOAD, STORE, LOAD-CAPABILITY, STORE-CAPABILITY, STORE-LOCAL}
+use Rattle.manual.specs.Access.{accessOf}
+use Rattle.manual.specs.declared.Check.{Check}
+use Rattle.manual.specs.declared.Named.{Named}
+use Rattle.manual.specs.declared.Fault.{Fault}
+use Rattle.manual.specs.declared.Effect.{Effect}
+use Rattle.manual.specs.Checks.{Checked, ok, fail, finish, _>>_, that, opened, tagged, unsealed, granted, lacking, LENGTH}
 
 -- 01: Length, then alignment, then memory. Where the bytes lie is for memory to say; which stop misalignment gives, for the instruction.
 -- The pages' tests leave out cb.offset; 01 counts it, and so does accessOf.

@@ -1,24 +1,14 @@
 // The two memories: where an access lies, and its bytes as a part of one or the other.
-use num::Address;
-use num::LINE;
-use num::Size;
+use manual::Address;
+use manual::LINE;
+use manual::Loaded;
+use manual::Place;
+use manual::Size;
 ghost use mathlib.Core.Path.{_≡_};
 ghost use Prim.Native.Nat.{_+_};
 ghost use lib.Dec.{leb};
-ghost use Rattle.num.specs.Number.{bytesIn};
-ghost use Rattle.mem.specs.Place.{memoryFits, tagsFit, placeOf, bytesOf, numberOf, loadOf};
-
-// Where an access lies: at this index of the flash or of the RAM, or in neither.
-pub enum Place {
-    Flash(usize),
-    Ram(usize),
-    Nowhere,
-}
-
-pub enum Loaded {
-    Value(u64),
-    Nowhere,
-}
+ghost use Rattle.manual.specs.Number.{bytesIn};
+ghost use Rattle.manual.specs.Place.{memoryFits, tagsFit, placeOf, bytesOf, numberOf, loadOf};
 
 pub const RAM_BASE: u64 = 0x10_0000;
 

@@ -3,14 +3,14 @@ use Prim.Native.Nat.{ℕ}
 use mathlib.Core.Path.{_≡_, refl}
 use mathlib.Core.Bool.{Bool}
 use mathlib.Core.List.{List}
-use Rattle.num.specs.declared.Size.{Size}
-use Rattle.num.specs.Number.{bytesIn}
-use Rattle.cap.specs.declared.Cap.{Cap}
-use Rattle.cap.specs.Cap.{LOAD, STORE}
-use Rattle.access.specs.declared.Access.{Access}
-use Rattle.checks.specs.declared.Named.{Named}
-use Rattle.checks.specs.declared.Planned.{Planned}
-use Rattle.checks.specs.Checks.{settle}
+use Rattle.manual.specs.declared.Size.{Size}
+use Rattle.manual.specs.Number.{bytesIn}
+use Rattle.manual.specs.declared.Cap.{Cap}
+use Rattle.manual.specs.Cap.{LOAD, STORE}
+use Rattle.manual.specs.declared.Access.{Access}
+use Rattle.manual.specs.declared.Named.{Named}
+use Rattle.manual.specs.declared.Planned.{Planned}
+use Rattle.manual.specs.Checks.{settle}
 use Rattle.manual.specs.Transfer.{load, store}
 use Rattle.manual.specs.declared.Operands.{Operands}
 use Rattle.data.specs.Data.{Reaches, loadedAt, storedAt, storesRam, storesTags}

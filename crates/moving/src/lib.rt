@@ -1,10 +1,10 @@
 // Data loads and stores through a capability register, carried out on the values that their words name.
-use cap::Cap;
-use checks::Named;
 use deriving::Capable;
-use isa::Instr;
-use mem::Loaded;
-use num::Size;
+use manual::Cap;
+use manual::Instr;
+use manual::Loaded;
+use manual::Named;
+use manual::Size;
 ghost use mathlib.Core.Path.{_≡_};
 ghost use Rattle.moving.specs.Moving.{putsLoaded, Loads, Stores};
 

@@ -1,12 +1,12 @@
 // What a start book names: the record of a register or of a line, where the writer gives it one (01, "The start book").
-use cap::Cap;
 use compose::LINE_HEAD;
 use inscribe::CAP_RECORD;
 use inscribe::GENERAL_RECORD;
+use manual::Cap;
 ghost use mathlib.Core.Path.{_≡_};
 ghost use lib.ListN.{length};
-ghost use Rattle.store.specs.Store.{put};
-ghost use Rattle.naming.specs.Naming.{capPiece, generalPiece, lineNamed};
+ghost use Rattle.manual.specs.Store.{put};
+ghost use Rattle.pages.specs.Naming.{capPiece, generalPiece, lineNamed};
 
 // A capability register, where it has a record; the bytes of that record, 0 where there is none.
 pub fn name_cap(number: u8, c: Cap, out: &mut [u8], at: usize) -> usize

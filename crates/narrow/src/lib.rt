@@ -1,11 +1,10 @@
 // Capabilities derived from others: what each narrowing instruction of 004 leaves, once its checks have passed.
-use cap::Cap;
 use cap::GLOBAL;
-use num::Address;
-use num::Offset;
+use manual::Address;
+use manual::Cap;
+use manual::Offset;
 ghost use mathlib.Core.Path.{_≡_};
-ghost use Rattle.narrow.specs.Narrow.{null, andPerms, incBase, setLength, setOffset, incOffset, clearTag, sealedBy, andGlobal, unsealedBy, fromPtr};
-ghost use Rattle.narrow.specs.Claims.{TopIsEmpty};
+ghost use Rattle.manual.specs.Narrow.{null, andPerms, incBase, setLength, setOffset, incOffset, clearTag, sealedBy, andGlobal, unsealedBy, fromPtr};
 
 pub fn no_cap() -> Cap
     ensures { λ r. ⌜ r ≡ null ⌝ }
@@ -122,8 +121,3 @@ pub fn from_ptr(c: Cap, pointer: u64) -> Cap
         inc_base(c, pointer)
     }
 }
-
-// What the definitions promise of the top of memory.
-pub fn claims()
-    ensures top_is_empty { λ _. ⌜ TopIsEmpty ⌝ }
-{}

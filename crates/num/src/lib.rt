@@ -1,25 +1,12 @@
 // Numbers of 64 bits, offsets and addresses, and numbers in bytes.
+use manual::Address;
+use manual::LINE;
+use manual::Offset;
+use manual::Size;
 ghost use mathlib.Core.Path.{_≡_};
 ghost use Prim.Native.Nat.{_%_, _^_, _<_, _≤_};
 ghost use lib.ListN.{length};
-ghost use Rattle.num.specs.Number.{be, toBe, bytesIn, signExtend, extendFrom, addressAt, offsetTo, movedBy, extended};
-
-// Counts from a base.
-pub struct Offset(pub u64);
-
-// Counts from zero.
-pub struct Address(pub u64);
-
-// The sizes of an access: of data, and a capability's line.
-pub enum Size {
-    One,
-    Two,
-    Four,
-    Eight,
-    Line,
-}
-
-pub const LINE: usize = 32;
+ghost use Rattle.manual.specs.Number.{be, toBe, bytesIn, signExtend, extendFrom, addressAt, offsetTo, movedBy, extended};
 
 // The address an offset leads to from a base, mod 2^64.
 pub fn address_at(base: Address, offset: Offset) -> Address

@@ -1,14 +1,14 @@
 // Which variant an instruction, an operation, a field or a comparison is, as the program `words` prints it: no part of the model.
-use isa::Alu;
-use isa::Compare;
-use isa::Field;
-use isa::Instr;
+use manual::Alu;
+use manual::Compare;
+use manual::Field;
+use manual::Instr;
 ghost use mathlib.Core.Path.{_≡_};
 ghost use denote.Enum.Declared.{tagOf as variantOf};
-ghost use Rattle.isa.proofs.Alu.{the-type as operations};
-ghost use Rattle.isa.proofs.Compare.{the-type as kinds};
-ghost use Rattle.isa.proofs.Field.{the-type as fields};
-ghost use Rattle.isa.proofs.Instr.{the-type as instructions};
+ghost use Rattle.manual.proofs.Alu.{the-type as operations};
+ghost use Rattle.manual.proofs.Compare.{the-type as kinds};
+ghost use Rattle.manual.proofs.Field.{the-type as fields};
+ghost use Rattle.manual.proofs.Instr.{the-type as instructions};
 
 // Which variant of Instr it is, from 0.
 pub fn number(i: Instr) -> u64

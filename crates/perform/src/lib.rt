@@ -1,8 +1,8 @@
 // A step's turn: what its fetched word plans, carried out.
-use checks::Fault;
-use checks::Planned;
-use fetch::Fetched;
+use manual::Fault;
+use manual::Fetched;
 use manual::Operands;
+use manual::Planned;
 use manual::Turn;
 ghost use mathlib.Core.Path.{_≡_};
 ghost use Rattle.manual.specs.Act.{plannedOf, actTurn, actRam, actTags};

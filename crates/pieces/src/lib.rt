@@ -4,7 +4,7 @@ ghost use mathlib.Core.Path.{_≡_};
 ghost use Prim.Native.Nat.{min};
 ghost use lib.ListN.{length, replicate};
 ghost use Rattle.io.specs.Counts.{Counts};
-ghost use Rattle.store.specs.Store.{put};
+ghost use Rattle.manual.specs.Store.{put};
 ghost use Rattle.tables.specs.Tables.{number4, pieceEnd, withPiece, memoryEnd, memoryIn};
 
 // Every byte this one.

@@ -5,28 +5,28 @@ use mathlib.Core.Bool.{Bool, true, false, cond, _&&_}
 use mathlib.Core.List.{List}
 use native.Mathlib.Omega.{arith}
 use lib.Dec.{eqb}
-use Rattle.num.specs.declared.Size.{Size}
-use Rattle.num.specs.Number.{bytesIn}
-use Rattle.cap.specs.declared.Cap.{Cap}
-use Rattle.access.specs.declared.Access.{Access}
-use Rattle.cap.specs.Cap.{LOAD, STORE}
-use Rattle.checks.specs.declared.Named.{Named}
-use Rattle.checks.specs.declared.Fault.{Fault}
-use Rattle.checks.specs.declared.Planned.{Planned}
-use Rattle.checks.specs.Checks.{settle}
+use Rattle.manual.specs.declared.Size.{Size}
+use Rattle.manual.specs.Number.{bytesIn}
+use Rattle.manual.specs.declared.Cap.{Cap}
+use Rattle.manual.specs.declared.Access.{Access}
+use Rattle.manual.specs.Cap.{LOAD, STORE}
+use Rattle.manual.specs.declared.Named.{Named}
+use Rattle.manual.specs.declared.Fault.{Fault}
+use Rattle.manual.specs.declared.Planned.{Planned}
+use Rattle.manual.specs.Checks.{settle}
 use Rattle.manual.specs.Transfer.{load, store}
-use Rattle.isa.specs.Decode.{lookup, majors, decodeWord, isJumpWord}
+use Rattle.manual.specs.Decode.{lookup, majors, decodeWord, isJumpWord}
 use Rattle.manual.specs.Branch.{wanted, branch}
 use Rattle.manual.specs.declared.Operands.{Operands}
 use Rattle.manual.specs.Plan.{planOf}
 use Rattle.manual.specs.declared.Change.{Change}
 use Rattle.manual.specs.declared.Turn.{Turn}
-use Rattle.fetch.specs.declared.Fetched.{Fetched}
+use Rattle.manual.specs.declared.Fetched.{Fetched}
 use Rattle.manual.specs.Perform.{turnOf, ramOf, tagsOf}
 use Rattle.manual.specs.Act.{plannedOf, doneTurn}
 use Rattle.special.specs.Special.{Means}
 use Rattle.special.proofs.Does.{load-does, store-does}
-use Rattle.fetch.specs.Fetch.{RESERVED, aheadOf}
+use Rattle.manual.specs.Fetch.{RESERVED, aheadOf}
 use Rattle.plain.specs.Plain.{Sees, setsLoaded, setsStored, branchesBy}
 use Rattle.data.specs.Data.{Reaches, loadedAt, storedAt, storesRam, storesTags}
 

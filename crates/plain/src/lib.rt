@@ -1,12 +1,12 @@
 // Instructions that look at no capability register but C0, carried out on the values that their words name.
-use cap::Cap;
-use isa::Alu;
-use mem::Loaded;
-use num::Size;
+use manual::Alu;
+use manual::Cap;
+use manual::Loaded;
+use manual::Size;
+use manual::Stored;
 use special::Plain;
-use store::Stored;
 ghost use mathlib.Core.Path.{_≡_};
-ghost use Rattle.isa.specs.Decode.{decodeWord};
+ghost use Rattle.manual.specs.Decode.{decodeWord};
 ghost use Rattle.plain.specs.Plain.{setsLoaded, setsStored, branchesBy, Plainly};
 
 fn sets_loaded(rd: u8, loaded: Loaded) -> Plain

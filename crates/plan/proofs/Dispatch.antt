@@ -1,8 +1,8 @@
 -- The plan at the instruction that a `match` found: one law for every arm. Assumes nothing.
 use mathlib.Core.Path.{_≡_}
-use Rattle.isa.specs.declared.Instr.{Instr}
-use Rattle.checks.specs.declared.Planned.{Planned}
-use Rattle.checks.specs.Checks.{settle}
+use Rattle.manual.specs.declared.Instr.{Instr}
+use Rattle.manual.specs.declared.Planned.{Planned}
+use Rattle.manual.specs.Checks.{settle}
 use Rattle.manual.specs.declared.Operands.{Operands}
 use Rattle.manual.specs.Plan.{planOf}
 

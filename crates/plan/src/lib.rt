@@ -1,13 +1,11 @@
 // What a word's instruction does on the registers that the word names: every check, then one effect.
-use cap::Cap;
-use checks::Effect;
-use checks::Fault;
-use checks::Named;
-use checks::Planned;
-use isa::Instr;
+use manual::Effect;
+use manual::Fault;
+use manual::Instr;
 use manual::Operands;
+use manual::Planned;
 ghost use mathlib.Core.Path.{_≡_};
-ghost use Rattle.checks.specs.Checks.{settle};
+ghost use Rattle.manual.specs.Checks.{settle};
 ghost use Rattle.manual.specs.Plan.{planOf};
 
 fn sets(rd: u8, value: u64) -> Planned

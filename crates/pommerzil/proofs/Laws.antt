@@ -4,11 +4,11 @@ use mathlib.Core.Path.{_≡_, _∙_, ap}
 use mathlib.Core.List.{List}
 use borrow.Author.Tests.{le-leb}
 use lib.ListN.{length}
-use Rattle.told.specs.declared.Written.{Written}
-use Rattle.told.specs.declared.Answer.{Answer}
-use Rattle.told.specs.Told.{over, ANSWER-NUMBERS, numbersOf, codeOf, bytesOf, answerPut}
-use Rattle.asked.specs.Answer.{bookRun}
-use Rattle.asked.specs.Exported.{runInto}
+use Rattle.manual.specs.declared.Written.{Written}
+use Rattle.manual.specs.declared.Answer.{Answer}
+use Rattle.manual.specs.Told.{over, ANSWER-NUMBERS, numbersOf, codeOf, bytesOf, answerPut}
+use Rattle.pages.specs.Answer.{bookRun}
+use Rattle.pages.specs.Exported.{runInto}
 
 -- a book that was run, and its answer put
 module _ (budget : ℕ) (book flash ram tags answer : List ℕ) (room : ANSWER-NUMBERS ≤ length answer) (a : Answer) (ram′ tags′ answer′ : List ℕ)

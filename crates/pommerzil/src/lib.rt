@@ -1,11 +1,11 @@
 // The model as a static library for C: numbers and lent buffers in, 01's number out. include/pommerzil.h is its header.
+use manual::Refusal;
 use told::ANSWER_NUMBERS;
-use told::Refusal;
 ghost use mathlib.Core.Path.{_≡_};
-ghost use Rattle.handing.specs.Handing.{readInto};
-ghost use Rattle.asked.specs.Exported.{runInto};
-ghost use Rattle.taking.specs.Taking.{writeFrom};
-ghost use Rattle.told.specs.Told.{codeOf, bytesOf};
+ghost use Rattle.pages.specs.Handing.{readInto};
+ghost use Rattle.pages.specs.Exported.{runInto};
+ghost use Rattle.pages.specs.Taking.{writeFrom};
+ghost use Rattle.manual.specs.Told.{codeOf, bytesOf};
 
 // Reads a book and runs it: the stop or the refusal, and the whole answer in `answer`.
 #[no_mangle]

@@ -4,7 +4,7 @@ use asked::BENCH_RAM;
 use asked::BENCH_TAGS;
 use asked::FILE_MOST;
 use libc::STDOUT_FILENO;
-use told::Answer;
+use manual::Answer;
 ghost use mathlib.Core.Path.{_≡_};
 ghost use lib.ListN.{length};
 ghost use Rattle.io.specs.Counts.{Counts};

@@ -1,7 +1,7 @@
 // The reader of a start book: it holds the book and its place in it (01, "The start book").
-use record::Head;
+use pages::Head;
 ghost use mathlib.Core.Path.{_≡_};
-ghost use Rattle.record.specs.Record.{headAt};
+ghost use Rattle.pages.specs.Record.{headAt};
 
 pub struct Reader<'a> {
     pub book: &'a [u8],

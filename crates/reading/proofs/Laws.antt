@@ -3,17 +3,17 @@ use Prim.Native.Nat.{ℕ}
 use mathlib.Core.Path.{_≡_, sym}
 use mathlib.Core.Bool.{Bool, true, false, _&&_}
 use lib.Dec.{eqb}
-use Rattle.cap.specs.declared.Cap.{Cap}
-use Rattle.cap.specs.Cap.{registerOpen}
-use Rattle.isa.specs.declared.Field.{Field}
-use Rattle.isa.specs.declared.Instr.{Instr}
-use Rattle.isa.specs.Decode.{ifZero}
-use Rattle.checks.specs.declared.Named.{Named}
-use Rattle.checks.specs.Checks.{settle}
+use Rattle.manual.specs.declared.Cap.{Cap}
+use Rattle.manual.specs.Cap.{registerOpen}
+use Rattle.manual.specs.declared.Field.{Field}
+use Rattle.manual.specs.declared.Instr.{Instr}
+use Rattle.manual.specs.Decode.{ifZero}
+use Rattle.manual.specs.declared.Named.{Named}
+use Rattle.manual.specs.Checks.{settle}
 use Rattle.manual.specs.Inspect.{fieldOf, get}
 use Rattle.manual.specs.declared.Operands.{Operands}
 use Rattle.manual.specs.Plan.{planOf}
-use Rattle.checks.proofs.Tests.{both-true}
+use Rattle.manual.proofs.Tests.{both-true}
 use Rattle.deriving.specs.Deriving.{Leads}
 use Rattle.reading.specs.Reading.{setsWhere}
 

@@ -1,7 +1,7 @@
 // Words of major opcode 18 on the values that they name: fields of the register at 15..11 are read here, and `deriving` does the rest.
-use cap::Cap;
-use checks::Named;
 use deriving::Capable;
+use manual::Cap;
+use manual::Named;
 ghost use mathlib.Core.Path.{_≡_};
 ghost use Rattle.deriving.specs.Deriving.{Derives};
 ghost use Rattle.reading.specs.Reading.{setsWhere};

@@ -4,10 +4,10 @@ use mathlib.Core.Path.{_≡_}
 use mathlib.Core.Bool.{true}
 use lib.Dec.{ltb}
 use borrow.Author.Tests.{ltb-true}
-use Rattle.cap.specs.declared.Cap.{Cap}
-use Rattle.cap.specs.Cap.{Within}
-use Rattle.accept.specs.Accept.{widthFits}
-use Rattle.checks.proofs.Tests.{both-true}
+use Rattle.manual.specs.declared.Cap.{Cap}
+use Rattle.manual.specs.Cap.{Within}
+use Rattle.manual.specs.Accept.{widthFits}
+use Rattle.manual.proofs.Tests.{both-true}
 use Rattle.reread.specs.Claims.{Sized}
 
 pub within : (c : Cap) → Sized c → widthFits c ≡ true → Within c

@@ -7,30 +7,30 @@ use native.Mathlib.Omega.{arith}
 use lib.Dec.{eqb}
 use lib.ListN.{length, getD, set, take, drop, replicate, length-replicate, getD-replicate}
 use borrow.Author.Tests.{le-leb, eqb-true, ne-eqb, not-true}
-use Rattle.mem.specs.Place.{RAM-BASE, memoryFits, tagsFit}
-use Rattle.store.specs.Store.{bit, put, tagOf, withTag}
-use Rattle.cap.specs.declared.Cap.{Cap}
-use Rattle.narrow.specs.Narrow.{null}
-use Rattle.core.specs.declared.Pending.{Pending}
-use Rattle.core.specs.Registers.{isPending}
-use Rattle.told.specs.declared.Verdict.{Verdict}
-use Rattle.accept.specs.Accept.{verdictOf}
-use Rattle.core.specs.declared.Machine.{Machine}
-use Rattle.record.specs.declared.Entry.{Entry}
-use Rattle.record.specs.Record.{headAt}
-use Rattle.book.specs.declared.Step.{Step}
-use Rattle.book.specs.Book.{kindOf, keyOf, afterHead, stepAt}
-use Rattle.book.proofs.Walks.{more-fits}
-use Rattle.compose.specs.Compose.{capBody, generalBody, lineBody, zeroBytes}
-use Rattle.compose.proofs.Fields.{line-bytes}
-use Rattle.spell.specs.Spell.{lineBytes}
-use Rattle.write.specs.Write.{rests}
-use Rattle.entering.specs.Entering.{Start, entered, machineWith, ramWith, tagsWith, enterAll, enterBook, bare}
-use Rattle.enter.specs.Enter.{judged, readBook}
+use Rattle.manual.specs.Place.{RAM-BASE, memoryFits, tagsFit}
+use Rattle.manual.specs.Store.{bit, put, tagOf, withTag}
+use Rattle.manual.specs.declared.Cap.{Cap}
+use Rattle.manual.specs.Narrow.{null}
+use Rattle.manual.specs.declared.Pending.{Pending}
+use Rattle.manual.specs.Registers.{isPending}
+use Rattle.manual.specs.declared.Verdict.{Verdict}
+use Rattle.manual.specs.Accept.{verdictOf}
+use Rattle.manual.specs.declared.Machine.{Machine}
+use Rattle.pages.specs.declared.Entry.{Entry}
+use Rattle.pages.specs.Record.{headAt}
+use Rattle.pages.specs.declared.Step.{Step}
+use Rattle.pages.specs.Book.{kindOf, keyOf, afterHead, stepAt}
+use Rattle.pages.proofs.Walks.{more-fits}
+use Rattle.pages.specs.Compose.{capBody, generalBody, lineBody, zeroBytes}
+use Rattle.pages.proofs.Fields.{line-bytes}
+use Rattle.pages.specs.Spell.{lineBytes}
+use Rattle.pages.specs.Write.{rests}
+use Rattle.pages.specs.Entering.{Start, entered, machineWith, ramWith, tagsWith, enterAll, enterBook, bare}
+use Rattle.pages.specs.Enter.{judged, readBook}
 use Rattle.reread.specs.Claims.{Typed, WrittenAndRead}
 use Rattle.reread.proofs.Walked.{Passes}
-use Rattle.checks.proofs.Tests.{both-true}
-use Rattle.accept.proofs.Accepted.{sizes-fit, tag-low, whole-lines, first-zero, bytes-32}
+use Rattle.manual.proofs.Tests.{both-true}
+use Rattle.manual.proofs.Accepted.{sizes-fit, tag-low, whole-lines, first-zero, bytes-32}
 use Rattle.reread.proofs.Filled.{filled, filled-set, filled-same, filled-all, filled-put, filled-part, zero-part, line-bytes-at}
 use Rattle.reread.proofs.Written.{Omits, bookOmitting, zeros, written-omits, there, book-walk, book-accepted, taken}
 

@@ -8,17 +8,17 @@ use lib.Dec.{eqb, leb, ltb}
 use lib.ListN.{length, take, drop, length-append}
 use lib.Seq.{drop-at, take-all}
 use borrow.Author.Tests.{le-leb, lt-ltb}
-use Rattle.store.specs.Store.{bit}
-use Rattle.cap.specs.declared.Cap.{Cap}
-use Rattle.line.specs.Line.{capIn}
-use Rattle.accept.specs.Accept.{topFits, loadedFits}
-use Rattle.record.specs.declared.Entry.{Entry}
-use Rattle.record.specs.Record.{byte, number}
-use Rattle.entry.specs.Entry.{isLine, generalOf, lineOf, entryOf}
-use Rattle.fields.specs.Fields.{capOf, capabilityOf}
-use Rattle.book.specs.Book.{afterEntry}
-use Rattle.compose.specs.Compose.{fields, capBody, generalBody, lineBody}
-use Rattle.compose.proofs.Fields.{length-fields}
+use Rattle.manual.specs.Store.{bit}
+use Rattle.manual.specs.declared.Cap.{Cap}
+use Rattle.manual.specs.Line.{capIn}
+use Rattle.manual.specs.Accept.{topFits, loadedFits}
+use Rattle.pages.specs.declared.Entry.{Entry}
+use Rattle.pages.specs.Record.{byte, number}
+use Rattle.pages.specs.Entry.{isLine, generalOf, lineOf, entryOf}
+use Rattle.pages.specs.Fields.{capOf, capabilityOf}
+use Rattle.pages.specs.Book.{afterEntry}
+use Rattle.pages.specs.Compose.{fields, capBody, generalBody, lineBody}
+use Rattle.pages.proofs.Fields.{length-fields}
 use Rattle.reread.specs.Records.{CapIsRead, GeneralIsRead, LineIsRead}
 use Rattle.reread.proofs.Found.{found, field-at, byte-at, field-of, first-of, byte-of}
 

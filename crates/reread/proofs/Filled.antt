@@ -8,16 +8,16 @@ use lib.Dec.{eqb}
 use borrow.Author.Tests.{eqb-true, not-true}
 use lib.ListN.{length, getD, set, take, drop, replicate, length-append, length-replicate, getD-replicate, length-drop, take-append-drop, drop-of-length-le}
 use lib.Seq.{take-suc, take-add, take-all, take-at, drop-at, drop-cons, drop-drop, set-at, append-snoc, length-take-le, getD-take, getD-drop, ext-getD}
-use Rattle.num.specs.Number.{toBe}
-use Rattle.store.specs.Store.{bit, put}
-use Rattle.num.proofs.Numbers.{length-toBe}
-use Rattle.store.proofs.Stores.{put-next}
-use Rattle.cap.specs.declared.Cap.{Cap}
-use Rattle.narrow.specs.Narrow.{null}
-use Rattle.compose.specs.Compose.{fields, recordOf, lineBody, zeroCap, zeroBytes}
-use Rattle.compose.proofs.Fields.{length-fields}
-use Rattle.checks.proofs.Tests.{both-true}
-use Rattle.accept.proofs.Accepted.{each}
+use Rattle.manual.specs.Number.{toBe}
+use Rattle.manual.specs.Store.{bit, put}
+use Rattle.manual.proofs.Numbers.{length-toBe}
+use Rattle.manual.proofs.Stores.{put-next}
+use Rattle.manual.specs.declared.Cap.{Cap}
+use Rattle.manual.specs.Narrow.{null}
+use Rattle.pages.specs.Compose.{fields, recordOf, lineBody, zeroCap, zeroBytes}
+use Rattle.pages.proofs.Fields.{length-fields}
+use Rattle.manual.proofs.Tests.{both-true}
+use Rattle.manual.proofs.Accepted.{each}
 use Rattle.reread.proofs.Walked.{Suffix}
 
 -- the first i elements of xs over those of zs

@@ -7,15 +7,15 @@ use native.Mathlib.Nat.{mod-eq-of-lt, pow-le-pow-right}
 use lib.ListN.{length, getD, take, drop, length-append}
 use lib.Seq.{take-at, drop-at, drop-drop, getD-append-add}
 use borrow.Author.Tests.{le-ltb, lt-leb, ne-eqb}
-use Rattle.num.specs.Number.{be, toBe}
-use Rattle.num.proofs.Numbers.{length-toBe, be-toBe}
-use Rattle.record.specs.declared.Head.{Head}
-use Rattle.record.specs.declared.Entry.{Entry}
-use Rattle.record.specs.Record.{byte, number, bodyAt, headAt}
-use Rattle.entry.specs.Entry.{entryOf}
-use Rattle.book.specs.Book.{orderedStep, afterEntry, afterHead, stepAt}
-use Rattle.compose.specs.Compose.{fields, recordOf}
-use Rattle.compose.proofs.Fields.{bytesOf}
+use Rattle.manual.specs.Number.{be, toBe}
+use Rattle.manual.proofs.Numbers.{length-toBe, be-toBe}
+use Rattle.pages.specs.declared.Head.{Head}
+use Rattle.pages.specs.declared.Entry.{Entry}
+use Rattle.pages.specs.Record.{byte, number, bodyAt, headAt}
+use Rattle.pages.specs.Entry.{entryOf}
+use Rattle.pages.specs.Book.{orderedStep, afterEntry, afterHead, stepAt}
+use Rattle.pages.specs.Compose.{fields, recordOf}
+use Rattle.pages.proofs.Fields.{bytesOf}
 use Rattle.reread.specs.Records.{Found}
 
 -- the two bytes of a length below 65,536

@@ -6,14 +6,14 @@ use mathlib.Core.List.{List, [], _++_, append-assoc}
 use native.Mathlib.Omega.{arith}
 use borrow.Author.Tests.{le-leb}
 use lib.ListN.{length, length-append}
-use Rattle.record.specs.declared.Entry.{Entry}
-use Rattle.record.specs.Record.{headAt}
-use Rattle.book.specs.declared.Step.{Step}
-use Rattle.told.specs.declared.Verdict.{Verdict}
-use Rattle.book.specs.Book.{kindOf, keyOf, inOrder, afterHead, stepAt, walk}
-use Rattle.book.proofs.Walks.{rises, goes-on, walk-done}
-use Rattle.compose.specs.Compose.{recordOf}
-use Rattle.naming.specs.Run.{pieces}
+use Rattle.pages.specs.declared.Entry.{Entry}
+use Rattle.pages.specs.Record.{headAt}
+use Rattle.pages.specs.declared.Step.{Step}
+use Rattle.manual.specs.declared.Verdict.{Verdict}
+use Rattle.pages.specs.Book.{kindOf, keyOf, inOrder, afterHead, stepAt, walk}
+use Rattle.pages.proofs.Walks.{rises, goes-on, walk-done}
+use Rattle.pages.specs.Compose.{recordOf}
+use Rattle.pages.specs.Runs.{pieces}
 use Rattle.reread.specs.Records.{Found}
 use Rattle.reread.proofs.Found.{record-end}
 

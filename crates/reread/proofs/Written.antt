@@ -8,29 +8,29 @@ use lib.Dec.{eqb, ltb}
 use borrow.Author.Tests.{eqb-true}
 use lib.ListN.{length, getD, take, drop}
 use lib.Seq.{take-at}
-use Rattle.mem.specs.Place.{RAM-BASE}
-use Rattle.store.specs.Store.{tagOf}
-use Rattle.cap.specs.declared.Cap.{Cap}
-use Rattle.narrow.specs.Narrow.{null}
-use Rattle.told.specs.declared.Verdict.{Verdict}
-use Rattle.accept.specs.Accept.{verdictOf}
-use Rattle.core.specs.declared.Machine.{Machine}
-use Rattle.told.specs.declared.Refusal.{Refusal}
-use Rattle.record.specs.declared.Entry.{Entry}
-use Rattle.entry.proofs.Laws.{within as line-within}
-use Rattle.book.specs.Book.{checkBook}
-use Rattle.book.proofs.Walks.{rises, check-start}
-use Rattle.compose.specs.Compose.{recordOf, capBody, generalBody, lineBody, zeroCap, zeroBytes}
-use Rattle.told.specs.declared.Written.{Written}
-use Rattle.naming.specs.Naming.{capPiece, generalPiece}
-use Rattle.naming.specs.Run.{pieces}
-use Rattle.spell.specs.Spell.{lineBytes, linePiece, capPieces, generalPieces, linePieces, bookOf}
-use Rattle.spell.proofs.Books.{lines-there}
-use Rattle.write.specs.Write.{refused, wholly, rests, afterStart, afterVerdict, writeBook}
+use Rattle.manual.specs.Place.{RAM-BASE}
+use Rattle.manual.specs.Store.{tagOf}
+use Rattle.manual.specs.declared.Cap.{Cap}
+use Rattle.manual.specs.Narrow.{null}
+use Rattle.manual.specs.declared.Verdict.{Verdict}
+use Rattle.manual.specs.Accept.{verdictOf}
+use Rattle.manual.specs.declared.Machine.{Machine}
+use Rattle.manual.specs.declared.Refusal.{Refusal}
+use Rattle.pages.specs.declared.Entry.{Entry}
+use Rattle.pages.proofs.Entries.{within as line-within}
+use Rattle.pages.specs.Book.{checkBook}
+use Rattle.pages.proofs.Walks.{rises, check-start}
+use Rattle.pages.specs.Compose.{recordOf, capBody, generalBody, lineBody, zeroCap, zeroBytes}
+use Rattle.manual.specs.declared.Written.{Written}
+use Rattle.pages.specs.Naming.{capPiece, generalPiece}
+use Rattle.pages.specs.Runs.{pieces}
+use Rattle.pages.specs.Spell.{lineBytes, linePiece, capPieces, generalPieces, linePieces, bookOf}
+use Rattle.pages.proofs.Books.{lines-there}
+use Rattle.pages.specs.Write.{refused, wholly, rests, afterStart, afterVerdict, writeBook}
 use Rattle.reread.specs.Claims.{Typed, WrittenIsAccepted}
 use Rattle.reread.proofs.Entries.{cap-is-read, general-is-read, line-is-read}
 use Rattle.reread.proofs.Walked.{Suffix, further, Goes, goes-end, Upto, upto-next, Passes, accepts, piece-goes, pieces-go}
-use Rattle.accept.proofs.Accepted.{sizes-fit, cap-top, pcc-top, cap-width, pcc-width, line-top, bytes-32, loaded-top}
+use Rattle.manual.proofs.Accepted.{sizes-fit, cap-top, pcc-top, cap-width, pcc-width, line-top, bytes-32, loaded-top}
 use Rattle.reread.proofs.Accepted.{within}
 use Rattle.reread.proofs.Filled.{zero-cap}
 

@@ -4,15 +4,15 @@ use mathlib.Core.Path.{_≡_}
 use mathlib.Core.Bool.{true}
 use mathlib.Core.List.{List}
 use lib.ListN.{length, getD, take}
-use Rattle.mem.specs.Place.{memoryFits}
-use Rattle.cap.specs.declared.Cap.{Cap}
-use Rattle.narrow.specs.Narrow.{null}
-use Rattle.core.specs.declared.Machine.{Machine}
-use Rattle.told.specs.declared.Verdict.{Verdict}
-use Rattle.book.specs.Book.{checkBook}
-use Rattle.enter.specs.Enter.{judged, readBook}
-use Rattle.told.specs.declared.Written.{Written}
-use Rattle.write.specs.Write.{writeBook}
+use Rattle.manual.specs.Place.{memoryFits}
+use Rattle.manual.specs.declared.Cap.{Cap}
+use Rattle.manual.specs.Narrow.{null}
+use Rattle.manual.specs.declared.Machine.{Machine}
+use Rattle.manual.specs.declared.Verdict.{Verdict}
+use Rattle.pages.specs.Book.{checkBook}
+use Rattle.pages.specs.Enter.{judged, readBook}
+use Rattle.manual.specs.declared.Written.{Written}
+use Rattle.pages.specs.Write.{writeBook}
 
 -- every field is of its integer type, as in any machine of the code
 pub record Sized (c : Cap) : Type 0 where

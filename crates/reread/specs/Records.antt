@@ -4,15 +4,15 @@ use mathlib.Core.Path.{_≡_}
 use mathlib.Core.Bool.{Bool, true}
 use mathlib.Core.List.{List, _++_}
 use lib.ListN.{length}
-use Rattle.cap.specs.declared.Cap.{Cap}
-use Rattle.cap.specs.Cap.{Within}
-use Rattle.line.specs.Line.{capIn}
-use Rattle.accept.specs.Accept.{topFits, loadedFits}
-use Rattle.record.specs.declared.Entry.{Entry}
-use Rattle.entry.specs.Entry.{isLine}
-use Rattle.book.specs.declared.Step.{Step}
-use Rattle.book.specs.Book.{kindOf, keyOf, inOrder, stepAt}
-use Rattle.compose.specs.Compose.{recordOf, capBody, generalBody, lineBody}
+use Rattle.manual.specs.declared.Cap.{Cap}
+use Rattle.manual.specs.Cap.{Within}
+use Rattle.manual.specs.Line.{capIn}
+use Rattle.manual.specs.Accept.{topFits, loadedFits}
+use Rattle.pages.specs.declared.Entry.{Entry}
+use Rattle.pages.specs.Entry.{isLine}
+use Rattle.pages.specs.declared.Step.{Step}
+use Rattle.pages.specs.Book.{kindOf, keyOf, inOrder, stepAt}
+use Rattle.pages.specs.Compose.{recordOf, capBody, generalBody, lineBody}
 
 -- in any book, behind any bytes, after any record that comes before it: the walk finds this entry, and goes on behind the record
 abbrev pub Found : List ℕ → ℕ → Entry → Type 0

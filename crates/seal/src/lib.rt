@@ -1,16 +1,16 @@
 // CSeal and CUnseal (004).
-use cap::Cap;
-use checks::Check;
-use checks::Effect;
-use checks::LENGTH;
-use checks::Named;
-use checks::Planned;
-use checks::SEAL;
-use checks::TYPE;
+use manual::Cap;
+use manual::Check;
+use manual::Effect;
+use manual::LENGTH;
+use manual::Named;
+use manual::Planned;
+use manual::SEAL;
+use manual::TYPE;
 ghost use mathlib.Core.Path.{_≡_};
 ghost use Prim.Native.Nat.{_+_};
 ghost use lib.Dec.{eqb, ltb};
-ghost use Rattle.checks.specs.Checks.{settle};
+ghost use Rattle.manual.specs.Checks.{settle};
 ghost use Rattle.manual.specs.Seal.{cSeal, cUnseal};
 
 // Whether a + b, exactly, is below a limit.

@@ -5,33 +5,33 @@ use mathlib.Core.Bool.{Bool, true, false}
 use mathlib.Core.List.{List, [], _∷_}
 use native.Mathlib.Omega.{arith}
 use lib.ListN.{getD, set}
-use Rattle.num.specs.declared.Offset.{Offset}
-use Rattle.cap.specs.declared.Cap.{Cap}
-use Rattle.narrow.specs.Narrow.{null, setOffset, incOffset}
-use Rattle.isa.specs.Word.{field25, field20, field15}
-use Rattle.isa.specs.Decode.{decodeWord}
+use Rattle.manual.specs.declared.Offset.{Offset}
+use Rattle.manual.specs.declared.Cap.{Cap}
+use Rattle.manual.specs.Narrow.{null, setOffset, incOffset}
+use Rattle.manual.specs.Word.{field25, field20, field15}
+use Rattle.manual.specs.Decode.{decodeWord}
 use Rattle.manual.specs.Branch.{branchOffset, branchTo}
-use Rattle.checks.specs.declared.Planned.{Planned}
-use Rattle.checks.specs.Checks.{settle}
+use Rattle.manual.specs.declared.Planned.{Planned}
+use Rattle.manual.specs.Checks.{settle}
 use Rattle.manual.specs.declared.Operands.{Operands}
 use Rattle.manual.specs.Plan.{planOf}
 use Rattle.manual.specs.declared.Change.{Change}
-use Rattle.core.specs.declared.Pending.{Pending}
-use Rattle.fetch.specs.declared.Fetched.{Fetched}
+use Rattle.manual.specs.declared.Pending.{Pending}
+use Rattle.manual.specs.declared.Fetched.{Fetched}
 use Rattle.manual.specs.Perform.{toGeneral}
-use Rattle.fetch.specs.Fetch.{fetchOf, wordOf, aheadOf}
-use Rattle.core.specs.Registers.{isPending}
+use Rattle.manual.specs.Fetch.{fetchOf, wordOf, aheadOf}
+use Rattle.manual.specs.Registers.{isPending}
 use Rattle.special.specs.declared.Plain.{Plain}
 use Rattle.special.specs.Special.{Does, Untouched, Means}
 use Rattle.plain.specs.Plain.{Plainly}
 use Rattle.plain.specs.Plain as plain
 use Rattle.plain.proofs.Laws.{ahead-goes}
-use Rattle.state.specs.State.{operandsOf, kept, nextPcc, commit}
-use Rattle.state.specs.Steps.{turnAt, ramAt, tagsAt, runFrom}
+use Rattle.manual.specs.State.{operandsOf, kept, nextPcc, commit}
+use Rattle.manual.specs.Steps.{turnAt, ramAt, tagsAt, runFrom}
 use Rattle.way.specs.declared.Way.{Way}
 use Rattle.way.specs.Way.{nextAt, waitingAt, onFrom, turnedBy}
 use Rattle.slide.specs.Slide.{holding, Glides, Slides, Sees}
-use Rattle.state.proofs.Runs.{goes}
+use Rattle.manual.proofs.Runs.{goes}
 
 -- the operands of the step at PCC
 abbrev pub here-operands : List ℕ → List ℕ → List ℕ → List Cap → Cap → Pending → ℕ → Operands

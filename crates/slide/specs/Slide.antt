@@ -3,12 +3,12 @@ use Prim.Native.Nat.{ℕ, _+_}
 use mathlib.Core.Path.{_≡_}
 use mathlib.Core.List.{List}
 use lib.ListN.{getD}
-use Rattle.cap.specs.declared.Cap.{Cap}
-use Rattle.narrow.specs.Narrow.{null, setOffset}
-use Rattle.core.specs.declared.Pending.{Pending}
-use Rattle.fetch.specs.Fetch.{fetchOf, wordOf, aheadOf}
-use Rattle.core.specs.declared.Machine.{Machine}
-use Rattle.state.specs.Steps.{runFrom}
+use Rattle.manual.specs.declared.Cap.{Cap}
+use Rattle.manual.specs.Narrow.{null, setOffset}
+use Rattle.manual.specs.declared.Pending.{Pending}
+use Rattle.manual.specs.Fetch.{fetchOf, wordOf, aheadOf}
+use Rattle.manual.specs.declared.Machine.{Machine}
+use Rattle.manual.specs.Steps.{runFrom}
 use Rattle.way.specs.declared.Way.{Way}
 use Rattle.way.specs.Way.{waitingAt}
 

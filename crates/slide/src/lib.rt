@@ -1,5 +1,5 @@
 // Steps of instructions that look at no capability register but C0, one after the other, as far as they go.
-use cap::Cap;
+use manual::Cap;
 use special::Plain;
 use way::Way;
 ghost use mathlib.Core.Path.{_≡_};

@@ -3,23 +3,23 @@ use Prim.Native.Nat.{ℕ}
 use mathlib.Core.Path.{_≡_, refl, _∙_}
 use mathlib.Core.Bool.{Bool, false}
 use mathlib.Core.List.{List}
-use Rattle.num.specs.declared.Address.{Address}
-use Rattle.num.specs.declared.Size.{Size}
-use Rattle.mem.specs.declared.Loaded.{Loaded}
-use Rattle.store.specs.declared.Stored.{Stored}
-use Rattle.mem.specs.declared.Place.{Place}
-use Rattle.mem.specs.declared.Place.the-variants.{Flash, Ram, Nowhere}
-use Rattle.num.specs.Number.{bytesIn, toBe}
-use Rattle.mem.specs.Place.{loadOf, placeIn}
-use Rattle.store.specs.Store.{answerAt, ramAfter, tagsAfter}
-use Rattle.cap.specs.declared.Cap.{Cap}
-use Rattle.access.specs.declared.Access.{Access}
-use Rattle.cap.specs.Cap.{LOAD, STORE}
-use Rattle.checks.specs.declared.Named.{Named}
-use Rattle.checks.specs.declared.Fault.{Fault}
-use Rattle.checks.specs.declared.Effect.{Effect}
-use Rattle.checks.specs.declared.Planned.{Planned}
-use Rattle.checks.specs.Checks.{settle}
+use Rattle.manual.specs.declared.Address.{Address}
+use Rattle.manual.specs.declared.Size.{Size}
+use Rattle.manual.specs.declared.Loaded.{Loaded}
+use Rattle.manual.specs.declared.Stored.{Stored}
+use Rattle.manual.specs.declared.Place.{Place}
+use Rattle.manual.specs.declared.Place.the-variants.{Flash, Ram, Nowhere}
+use Rattle.manual.specs.Number.{bytesIn, toBe}
+use Rattle.manual.specs.Place.{loadOf, placeIn}
+use Rattle.manual.specs.Store.{answerAt, ramAfter, tagsAfter}
+use Rattle.manual.specs.declared.Cap.{Cap}
+use Rattle.manual.specs.declared.Access.{Access}
+use Rattle.manual.specs.Cap.{LOAD, STORE}
+use Rattle.manual.specs.declared.Named.{Named}
+use Rattle.manual.specs.declared.Fault.{Fault}
+use Rattle.manual.specs.declared.Effect.{Effect}
+use Rattle.manual.specs.declared.Planned.{Planned}
+use Rattle.manual.specs.Checks.{settle}
 use Rattle.manual.specs.Transfer.{load, store}
 use Rattle.manual.specs.declared.Operands.{Operands}
 use Rattle.manual.specs.Perform.{toGeneral, turnOf, ramOf, tagsOf}

@@ -4,13 +4,13 @@ use mathlib.Core.Path.{_≡_, refl}
 use mathlib.Core.Bool.{Bool, true, false}
 use mathlib.Core.List.{List}
 use lib.Dec.{eqb}
-use Rattle.checks.specs.declared.Effect.{Effect}
-use Rattle.checks.specs.declared.Planned.{Planned}
-use Rattle.checks.specs.Checks.{settle}
-use Rattle.isa.specs.declared.Alu.{Alu}
-use Rattle.isa.specs.declared.Instr.{Instr}
-use Rattle.isa.specs.Decode.{ifZero}
-use Rattle.compute.specs.Compute.{computeOf}
+use Rattle.manual.specs.declared.Effect.{Effect}
+use Rattle.manual.specs.declared.Planned.{Planned}
+use Rattle.manual.specs.Checks.{settle}
+use Rattle.manual.specs.declared.Alu.{Alu}
+use Rattle.manual.specs.declared.Instr.{Instr}
+use Rattle.manual.specs.Decode.{ifZero}
+use Rattle.manual.specs.Compute.{computeOf}
 use Rattle.manual.specs.declared.Operands.{Operands}
 use Rattle.manual.specs.Plan.{planOf}
 use Rattle.manual.specs.Perform.{turnOf, ramOf, tagsOf}

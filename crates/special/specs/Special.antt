@@ -3,13 +3,13 @@ use Prim.Native.Nat.{ℕ}
 use mathlib.Core.Path.{_≡_}
 use mathlib.Core.Bool.{Bool, cond}
 use mathlib.Core.List.{List}
-use Rattle.isa.specs.Decode.{specialWord}
-use Rattle.checks.specs.declared.Planned.{Planned}
-use Rattle.checks.specs.Checks.{settle}
+use Rattle.manual.specs.Decode.{specialWord}
+use Rattle.manual.specs.declared.Planned.{Planned}
+use Rattle.manual.specs.Checks.{settle}
 use Rattle.manual.specs.Branch.{branchTo}
 use Rattle.manual.specs.declared.Operands.{Operands}
 use Rattle.manual.specs.Plan.{planOf}
-use Rattle.core.specs.declared.Pending.{Pending}
+use Rattle.manual.specs.declared.Pending.{Pending}
 use Rattle.manual.specs.declared.Change.{Change}
 use Rattle.manual.specs.declared.Turn.{Turn}
 use Rattle.manual.specs.Perform.{toGeneral, toCapability}

@@ -1,5 +1,5 @@
 // Words of major opcode 0, carried out on the values that they name.
-use isa::Alu;
+use manual::Alu;
 ghost use mathlib.Core.Path.{_≡_};
 ghost use Rattle.special.specs.Special.{setsWhere, Specially};
 

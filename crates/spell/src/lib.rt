@@ -1,17 +1,17 @@
 // The book of a machine, spelled record by record (01, "The start book").
-use cap::Cap;
-use core::Machine;
+use manual::Cap;
+use manual::LINE;
+use manual::Machine;
 use mem::RAM_BASE;
-use num::LINE;
-use record::PCC;
+use pages::PCC;
 ghost use mathlib.Core.Path.{_≡_};
 ghost use mathlib.Core.Bool.{true};
 ghost use Prim.Native.Nat.{_*_, _^_, _≤_};
 ghost use lib.ListN.{length};
-ghost use Rattle.store.specs.Store.{put};
-ghost use Rattle.accept.specs.Accept.{sizesFit};
-ghost use Rattle.naming.specs.Run.{Runs};
-ghost use Rattle.spell.specs.Spell.{capPieces, generalPieces, linePieces, bookOf, legalBook};
+ghost use Rattle.manual.specs.Store.{put};
+ghost use Rattle.manual.specs.Accept.{sizesFit};
+ghost use Rattle.pages.specs.Runs.{Runs};
+ghost use Rattle.pages.specs.Spell.{capPieces, generalPieces, linePieces, bookOf, legalBook};
 
 fn spell_caps(caps: [Cap; 32], out: &mut [u8], at: usize) -> usize
     requires { ⌜ at ≤ 2 ^ 16 ⌝ }
@@ -49,7 +49,7 @@ fn spell_lines(ram: &[u8], tags: &[u8], out: &mut [u8], at: usize) -> usize
     while i < tags.len() {
         let start = i * LINE;
         let e = start + LINE;
-        let tag = store::tag_of(tags, i);
+        let tag = tags::tag_of(tags, i);
         end += naming::name_line(RAM_BASE + start as u64, tag, &ram[start..e], out, end);
         i += 1;
     }

@@ -1,16 +1,15 @@
 // Whether a start is accepted: the refusals 20, 21, 22 and 24, in this order (01, "Stop numbers").
-use cap::Cap;
-use core::Pending;
+use manual::Address;
+use manual::Cap;
+use manual::Pending;
+use manual::Refusal;
+use manual::Verdict;
 use mem::RAM_BASE;
-use num::Address;
-use num::LINE;
-use told::Refusal;
-use told::Verdict;
 ghost use mathlib.Core.Path.{_≡_};
 ghost use mathlib.Core.Bool.{Bool, not, _&&_};
 ghost use Prim.Native.Nat.{ℕ};
 ghost use lib.ListN.{length};
-ghost use Rattle.accept.specs.Accept.{lineFits, jumpFits, widthFits, jumpWidth, tagBytesFit, linesFit, capsFit, widthsFit, verdictOf};
+ghost use Rattle.manual.specs.Accept.{lineFits, jumpFits, widthFits, jumpWidth, tagBytesFit, linesFit, capsFit, widthsFit, verdictOf};
 
 // No tag byte is above 1.
 pub fn tag_bytes_fit(tags: &[u8]) -> bool
@@ -30,7 +29,7 @@ pub fn tag_bytes_fit(tags: &[u8]) -> bool
 fn line_fits(ram: &[u8], tags: &[u8], line: usize) -> bool
     ensures { λ r. ⌜ r ≡ lineFits (now (ram .entry)) (now (tags .entry)) line ⌝ }
 {
-    if store::tag_of(tags, line) {
+    if tags::tag_of(tags, line) {
         let at = Address(RAM_BASE + (line % 0x100_0000) as u64 * 32);
         accept::loaded_fits(line::load(&ram[..0], ram, tags, at))
     } else {

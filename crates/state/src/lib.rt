@@ -1,19 +1,9 @@
-// What a step leaves in the registers.
-use cap::Cap;
-use core::Machine;
-use core::Pending;
+// What a step leaves in the registers, and whether a jump waits.
+use manual::Cap;
+use manual::Pending;
 ghost use mathlib.Core.Path.{_≡_};
-ghost use Rattle.state.specs.State.{nextPcc, kept};
-
-// How a run ended: 01's stop or refusal, and the machine then.
-pub struct Outcome {
-    pub stop: u8,
-    pub cause: u8,
-    pub register: u8,
-    pub place: u64,
-    pub steps: u32,
-    pub machine: Machine,
-}
+ghost use Rattle.manual.specs.Registers.{isPending};
+ghost use Rattle.manual.specs.State.{nextPcc, kept};
 
 // The PCC of the next step: the pending jump, or 4 bytes on.
 pub fn next_pcc(pcc: Cap, pending: Pending) -> Cap
@@ -30,4 +20,14 @@ pub fn kept_zero(rd: usize, value: u64) -> u64
     ensures { λ r. ⌜ r ≡ kept rd value ⌝ }
 {
     if rd == 0 { 0 } else { value }
+}
+
+// Whether a jump waits for its slot.
+pub fn is_pending(pending: Pending) -> bool
+    ensures { λ r. ⌜ r ≡ isPending pending ⌝ }
+{
+    match pending {
+        Pending::Quiet => false,
+        Pending::Jump(_) => true,
+    }
 }

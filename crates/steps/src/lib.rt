@@ -1,19 +1,19 @@
 // The steps of a run, one after the other: by the shorter way as far as it goes, each other one by the whole way.
-use cap::Cap;
-use checks::Named;
-use core::Machine;
-use core::Pending;
-use fetch::Fetched;
+use manual::Cap;
+use manual::Fetched;
+use manual::Machine;
+use manual::Named;
 use manual::Operands;
+use manual::Outcome;
+use manual::Pending;
 use manual::Turn;
-use state::Outcome;
 ghost use mathlib.Core.Path.{_≡_};
 ghost use mathlib.Core.List.{List};
 ghost use Prim.Native.Nat.{ℕ};
-ghost use Rattle.core.specs.Registers.{isPending};
+ghost use Rattle.manual.specs.Registers.{isPending};
 ghost use Rattle.manual.specs.Act.{actTurn, actRam, actTags};
-ghost use Rattle.state.specs.State.{operandsBy};
-ghost use Rattle.state.specs.Steps.{runFrom};
+ghost use Rattle.manual.specs.State.{operandsBy};
+ghost use Rattle.manual.specs.Steps.{runFrom};
 
 // The registers that a word names, as values.
 fn gather(
@@ -94,7 +94,7 @@ fn turn(
     ensures { λ _. ⌜ now (tags .exit) ≡ actTags (operandsBy w (now (g .entry)) k25 k20 k15 k10 k0 pcc cause) (isPending pending) fetched (now (flash .entry)) (now (ram .entry)) (now (tags .entry)) ⌝ }
 {
     let o = gather(w, g, k25, k20, k15, k10, k0, pcc, cause);
-    perform::act(o, core::is_pending(pending), fetched, flash, ram, tags)
+    perform::act(o, state::is_pending(pending), fetched, flash, ram, tags)
 }
 
 // As many steps as the budget has, or up to the one that stops.

@@ -8,7 +8,7 @@ use native.Mathlib.Numerals.{add-one}
 use lib.ListN.{length, getD, drop, drop-of-length-le}
 use lib.Pow.{pow-add}
 use lib.Seq.{drop-cons}
-use Rattle.num.specs.Number.{toBe}
+use Rattle.manual.specs.Number.{toBe}
 use Rattle.sums.specs.Sums.{sumWith}
 
 pub sum-more : (sum : ℕ) (a b : List ℕ) → sumWith sum (a ++ b) ≡ sumWith (sumWith sum a) b

@@ -1,11 +1,11 @@
 -- The checksums of a case's line, as the second program makes them (second/src/generate/answers.rs).
 use Prim.Native.Nat.{ℕ, _+_, _*_, _%_, _^_}
 use mathlib.Core.List.{List, _++_, flatMap, foldl}
-use Rattle.num.specs.Number.{toBe}
-use Rattle.store.specs.Store.{bit}
-use Rattle.cap.specs.declared.Cap.{Cap}
-use Rattle.core.specs.declared.Pending.{Pending}
-use Rattle.core.specs.declared.Machine.{Machine}
+use Rattle.manual.specs.Number.{toBe}
+use Rattle.manual.specs.Store.{bit}
+use Rattle.manual.specs.declared.Cap.{Cap}
+use Rattle.manual.specs.declared.Pending.{Pending}
+use Rattle.manual.specs.declared.Machine.{Machine}
 
 -- each byte makes it (checksum * 16,777,619 + byte) mod 2^32
 unfoldable pub sumWith : ℕ → List ℕ → ℕ

@@ -1,10 +1,10 @@
 // The checksums of a line, as the second program makes them.
-use cap::Cap;
-use core::Machine;
-use core::Pending;
+use manual::Cap;
+use manual::Machine;
+use manual::Pending;
 ghost use mathlib.Core.Path.{_≡_};
 ghost use mathlib.Core.List.{flatMap};
-ghost use Rattle.num.specs.Number.{toBe};
+ghost use Rattle.manual.specs.Number.{toBe};
 ghost use Rattle.sums.specs.Sums.{sumWith, checksum, capBytes, pendingBytes, machineBytes};
 
 // The checksum with a byte more; below, with a number of 2, 4 and 8 bytes more.
@@ -37,8 +37,8 @@ fn sum_cap(sum: u64, c: Cap) -> u64
 {
     let flags = sum_1(
         sum_1(
-            sum_1(sum, store::tag_byte(c.tag) as u64),
-            store::tag_byte(c.sealed) as u64,
+            sum_1(sum, tags::tag_byte(c.tag) as u64),
+            tags::tag_byte(c.sealed) as u64,
         ),
         c.spare as u64,
     );

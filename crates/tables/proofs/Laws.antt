@@ -8,8 +8,8 @@ use borrow.Author.Tests.{lt-ltb, le-ltb, le-leb, lt-leb}
 use lib.ListN.{length, take, drop, set, replicate, drop-of-length-le, List·getD-eq-default}
 use lib.Seq.{take-length, length-take-le}
 use Rattle.io.specs.Counts.{Counts}
-use Rattle.store.specs.Store.{put}
-use Rattle.store.proofs.Stores.{put-part, length-part}
+use Rattle.manual.specs.Store.{put}
+use Rattle.manual.proofs.Stores.{put-part, length-part}
 use Rattle.tables.specs.Tables.{byteAt, placeAfter, partAt, numberAt, entries, withValue}
 
 pub byte-past : (s : List ℕ) (at : ℕ) → length s ≤ at → 0 ≡ byteAt s at

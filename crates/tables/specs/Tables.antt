@@ -4,12 +4,12 @@ use mathlib.Core.Bool.{cond}
 use mathlib.Core.List.{List, []}
 use lib.ListN.{length, getD, take, drop, set, replicate}
 use lib.Dec.{eqb, leb, ltb}
-use Rattle.num.specs.Number.{be}
-use Rattle.store.specs.Store.{put}
-use Rattle.cap.specs.declared.Cap.{Cap}
-use Rattle.narrow.specs.Narrow.{null}
-use Rattle.core.specs.declared.Pending.{Pending}
-use Rattle.core.specs.declared.Machine.{Machine}
+use Rattle.manual.specs.Number.{be}
+use Rattle.manual.specs.Store.{put}
+use Rattle.manual.specs.declared.Cap.{Cap}
+use Rattle.manual.specs.Narrow.{null}
+use Rattle.manual.specs.declared.Pending.{Pending}
+use Rattle.manual.specs.declared.Machine.{Machine}
 
 abbrev pub byteAt : List ℕ → ℕ → ℕ
 byteAt s at = getD s at 0

@@ -1,9 +1,8 @@
 // Registers as bytes taken as a machine again, and its book written.
-use told::Verdict;
-use told::Written;
+use manual::Verdict;
+use manual::Written;
 ghost use mathlib.Core.Path.{_≡_};
-ghost use Rattle.taking.specs.Claims.{HandedOutIsTaken};
-ghost use Rattle.taking.specs.Taking.{writeFrom};
+ghost use Rattle.pages.specs.Taking.{writeFrom};
 
 // The registers read, as a book for no memory, and the book of that machine, RAM and tags written.
 pub fn write_from(registers: &[u8], ram: &[u8], tags: &[u8], book: &mut [u8]) -> Written
@@ -22,8 +21,3 @@ pub fn write_from(registers: &[u8], ram: &[u8], tags: &[u8], book: &mut [u8]) ->
         }
     }
 }
-
-// What is handed out, is taken.
-pub fn claims()
-    ensures handed_out_is_taken { λ _. ⌜ HandedOutIsTaken ⌝ }
-{}

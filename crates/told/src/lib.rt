@@ -1,44 +1,12 @@
-// What is told of a start, of a book and of a run, and its numbers (01, "Stop numbers" and "Bench examples").
+// The numbers of what is told of a start, of a book and of a run (01, "Stop numbers" and "Bench examples").
+use manual::Answer;
+use manual::Refusal;
+use manual::Verdict;
+use manual::Written;
 ghost use mathlib.Core.Path.{_≡_};
-ghost use Rattle.told.specs.Told.{refusalNumber, verdictNumber, codeOf, bytesOf, refusing, answerPut};
+ghost use Rattle.manual.specs.Told.{refusalNumber, verdictNumber, codeOf, bytesOf, refusing, answerPut};
 
-// Why a start or a book is refused, by a run, by the reader of books or by their writer.
-pub enum Refusal {
-    Sizes,
-    TagByte,
-    Top,
-    Width,
-    Version,
-    Cut,
-    Kind,
-    Order,
-    Field,
-    Waiting,
-    Room,
-}
-
-// Of a start, or of a book.
-pub enum Verdict {
-    Accepted,
-    Refused(Refusal),
-}
-
-// What the writer answers: the length of the book that it wrote, or why it wrote nothing.
-pub enum Written {
-    Book(usize),
-    Refused(Refusal),
-}
-
-// What the bench prints: stop or refusal, cause code, register, place, steps, zeros where they do not apply.
-pub struct Answer {
-    pub stop: u8,
-    pub cause: u8,
-    pub register: u8,
-    pub place: u64,
-    pub steps: u32,
-}
-
-// How many numbers that is.
+// How many numbers an answer has.
 pub const ANSWER_NUMBERS: usize = 5;
 
 pub fn refusal_number(refusal: Refusal) -> u8

@@ -1,15 +1,15 @@
 // Loads and stores of data through a capability (004, chapter 4; 01, "Access and fetch").
-use access::Access;
-use cap::Cap;
-use checks::Check;
-use checks::Effect;
-use checks::Fault;
-use checks::LENGTH;
-use checks::Named;
-use checks::Planned;
-use num::Size;
+use manual::Access;
+use manual::Cap;
+use manual::Check;
+use manual::Effect;
+use manual::Fault;
+use manual::LENGTH;
+use manual::Named;
+use manual::Planned;
+use manual::Size;
 ghost use mathlib.Core.Path.{_≡_};
-ghost use Rattle.checks.specs.Checks.{settle};
+ghost use Rattle.manual.specs.Checks.{settle};
 ghost use Rattle.manual.specs.Transfer.{Through, load, store};
 
 // What every access through cb asks before its range: open, tagged, unsealed, permitted.

@@ -3,7 +3,7 @@
 use asked::BENCH_RAM;
 use asked::BENCH_TAGS;
 use libc::STDOUT_FILENO;
-use told::Answer;
+use manual::Answer;
 ghost use mathlib.Core.Path.{_≡_};
 ghost use lib.ListN.{length};
 

@@ -2,13 +2,13 @@
 use Prim.Native.Nat.{ℕ}
 use mathlib.Core.Bool.{Bool, true, false, cond, _&&_, _||_}
 use lib.Dec.{eqb, leb}
-use Rattle.num.specs.declared.Offset.{Offset}
-use Rattle.num.specs.Number.{movedBy}
-use Rattle.cap.specs.declared.Cap.{Cap}
-use Rattle.narrow.specs.Narrow.{setOffset}
-use Rattle.isa.specs.Word.{major, field25}
+use Rattle.manual.specs.declared.Offset.{Offset}
+use Rattle.manual.specs.Number.{movedBy}
+use Rattle.manual.specs.declared.Cap.{Cap}
+use Rattle.manual.specs.Narrow.{setOffset}
+use Rattle.manual.specs.Word.{major, field25}
 use Rattle.manual.specs.Branch.{branchOffset}
-use Rattle.core.specs.declared.Pending.{Pending}
+use Rattle.manual.specs.declared.Pending.{Pending}
 use Rattle.way.specs.declared.Way.{Way}
 
 -- all but the capability instructions other than field reads and those that derive a capability from one alone

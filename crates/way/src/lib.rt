@@ -1,9 +1,9 @@
 // The shorter way of a run: the words it may take, where a step of it stands, and where it ends.
-use cap::Cap;
-use core::Pending;
-use num::Offset;
+use manual::Cap;
+use manual::Offset;
+use manual::Pending;
 ghost use mathlib.Core.Path.{_≡_};
-ghost use Rattle.narrow.specs.Narrow.{setOffset};
+ghost use Rattle.manual.specs.Narrow.{setOffset};
 ghost use Rattle.way.specs.Way.{lightWord, onFrom, turnedBy, waitingAt};
 
 // A step's PC, whether it is the slot of a branch, and where that branch leads.

@@ -1,8 +1,8 @@
 // Says of each word of a table which instruction it is. The table is standard input, four bytes a word and at most
 // 65,536 in all; a word's line is six numbers, WORD NUMBER SUB FLAG IMMEDIATE JUMP, 0 for what an instruction lacks.
-use isa::Instr;
 use libc::STDIN_FILENO;
 use libc::STDOUT_FILENO;
+use manual::Instr;
 ghost use Prim.Native.Nat.{_/_, _<_};
 ghost use lib.ListN.{length};
 

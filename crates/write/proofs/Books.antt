@@ -6,14 +6,14 @@ use mathlib.Core.List.{List}
 use native.Mathlib.Omega.{arith}
 use lib.ListN.{length}
 use borrow.Author.Tests.{lt-ltb, le-ltb}
-use Rattle.store.specs.Store.{put}
-use Rattle.store.proofs.Stores.{put-fits, put-out, length-put}
-use Rattle.told.specs.declared.Refusal.{Refusal}
-use Rattle.accept.specs.Accept.{sizesFit}
-use Rattle.core.specs.declared.Machine.{Machine}
-use Rattle.told.specs.declared.Written.{Written}
-use Rattle.spell.specs.Spell.{bookOf, legalBook}
-use Rattle.write.specs.Write.{rests, refused, afterStart}
+use Rattle.manual.specs.Store.{put}
+use Rattle.manual.proofs.Stores.{put-fits, put-out, length-put}
+use Rattle.manual.specs.declared.Refusal.{Refusal}
+use Rattle.manual.specs.Accept.{sizesFit}
+use Rattle.manual.specs.declared.Machine.{Machine}
+use Rattle.manual.specs.declared.Written.{Written}
+use Rattle.pages.specs.Spell.{bookOf, legalBook}
+use Rattle.pages.specs.Write.{rests, refused, afterStart}
 
 module _ (m : Machine) (ram tags out : List ℕ) where
   pub waits : rests m ≡ false → refused Refusal.Waiting out ≡ afterStart m ram tags out

@@ -1,13 +1,13 @@
 // The writer of start books (01, "The start book").
-use core::Machine;
-use told::Refusal;
-use told::Verdict;
-use told::Written;
+use manual::Machine;
+use manual::Refusal;
+use manual::Verdict;
+use manual::Written;
 ghost use mathlib.Core.Path.{_≡_};
 ghost use mathlib.Core.Bool.{true};
 ghost use lib.ListN.{length};
-ghost use Rattle.accept.specs.Accept.{sizesFit};
-ghost use Rattle.write.specs.Write.{afterStart, writeBook};
+ghost use Rattle.manual.specs.Accept.{sizesFit};
+ghost use Rattle.pages.specs.Write.{afterStart, writeBook};
 
 // 35, then the book, or 36 where it does not fit.
 fn write_accepted(m: Machine, ram: &[u8], tags: &[u8], out: &mut [u8]) -> Written
@@ -16,7 +16,7 @@ fn write_accepted(m: Machine, ram: &[u8], tags: &[u8], out: &mut [u8]) -> Writte
     ensures { λ _. ⌜ now (out .exit) ≡ afterStart m (now (ram .entry)) (now (tags .entry)) (now (out .entry)) .out ⌝ }
 {
     let pending = m.pending;
-    if !checks::both(!core::is_pending(pending), m.cause == 0) {
+    if !checks::both(!state::is_pending(pending), m.cause == 0) {
         return Written::Refused(Refusal::Waiting);
     }
     let bytes = spell::put_book(m, ram, tags, out);

@@ -1,4 +1,4 @@
-use Rattle.num.proofs.Calls.{asks}
+use Rattle.manual.proofs.Calls.{asks}
 use borrow.Author.Needs.{needs}
 use Rattle.accept.proofs.loaded_fits.Statement.{statement}
 use Rattle.accept.proofs.loaded_fits.Tie as tie

@@ -1,4 +1,4 @@
-use Rattle.num.proofs.Calls.{asks}
+use Rattle.manual.proofs.Calls.{asks}
 use Rattle.accept.proofs.top_fits.Statement.{statement}
 use Rattle.accept.proofs.top_fits.Tie as tie
 

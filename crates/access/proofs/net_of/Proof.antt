@@ -1,5 +1,5 @@
 use native.Mathlib.Omega.{arith}
-use Rattle.access.proofs.Sums.{net-at, net-high, net-low}
+use Rattle.manual.proofs.Sums.{net-at, net-high, net-low}
 use borrow.Author.Needs.{needs}
 use Rattle.access.proofs.net_of.Statement.{statement}
 use Rattle.access.proofs.net_of.Tie as tie

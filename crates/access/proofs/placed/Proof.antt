@@ -1,14 +1,14 @@
-use Rattle.num.proofs.Calls.{asks}
+use Rattle.manual.proofs.Calls.{asks}
 use Prim.Native.Nat.{_+_, _^_, _≤_}
 use mathlib.Core.Path.{_≡_, sym, _∙_, ap}
 use mathlib.Core.Bool.{Bool, cond}
 use native.Mathlib.Omega.{arith}
 use borrow.Author.Tests.{ltb-true, ltb-false}
-use Rattle.num.specs.Number.{bytesIn}
-use Rattle.num.proofs.Numbers.{some-bytes}
-use Rattle.access.specs.Access.{placedAt}
-use Rattle.access.specs.declared.Access.{Access}
-use Rattle.access.proofs.Sums.{too-long, too-high, fitting, exact, answer}
+use Rattle.manual.specs.Number.{bytesIn}
+use Rattle.manual.proofs.Numbers.{some-bytes}
+use Rattle.manual.specs.Access.{placedAt}
+use Rattle.manual.specs.declared.Access.{Access}
+use Rattle.manual.proofs.Sums.{too-long, too-high, fitting, exact, answer}
 use borrow.Author.Needs.{needs}
 use Rattle.access.proofs.placed.Statement.{statement}
 use Rattle.access.proofs.placed.Tie as tie

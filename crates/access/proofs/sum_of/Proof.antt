@@ -1,7 +1,7 @@
-use Rattle.num.proofs.Calls.{asks}
+use Rattle.manual.proofs.Calls.{asks}
 use native.Mathlib.Omega.{arith}
 use mathlib.Core.Path.{_∙_}
-use Rattle.access.proofs.Sums.{up-up, up-down, down-up, down-down, below}
+use Rattle.manual.proofs.Sums.{up-up, up-down, down-up, down-down, below}
 use borrow.Author.Needs.{needs}
 use Rattle.access.proofs.sum_of.Statement.{statement}
 use Rattle.access.proofs.sum_of.Tie as tie

@@ -1,8 +1,8 @@
-use Rattle.num.proofs.Calls.{asks}
+use Rattle.manual.proofs.Calls.{asks}
 use mathlib.Core.Path.{sym, _∙_}
 use native.Mathlib.Omega.{arith}
-use Rattle.access.specs.Access.{accessOf}
-use Rattle.access.proofs.Sums.{sum-in, sum-out}
+use Rattle.manual.specs.Access.{accessOf}
+use Rattle.manual.proofs.Sums.{sum-in, sum-out}
 use borrow.Author.Needs.{needs}
 use Rattle.access.proofs.test.Statement.{statement}
 use Rattle.access.proofs.test.Tie as tie

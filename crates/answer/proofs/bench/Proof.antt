@@ -1,7 +1,7 @@
-use Rattle.num.proofs.Calls.{asks}
+use Rattle.manual.proofs.Calls.{asks}
 use mathlib.Core.Path.{refl}
 use borrow.Author.Needs.{needs}
-use Rattle.asked.specs.Bench.{benchOf}
+use Rattle.pages.specs.Bench.{benchOf}
 use Rattle.answer.proofs.bench.Statement.{statement}
 use Rattle.answer.proofs.bench.Tie as tie
 

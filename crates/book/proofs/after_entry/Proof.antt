@@ -1,8 +1,8 @@
-use Rattle.num.proofs.Calls.{asks}
+use Rattle.manual.proofs.Calls.{asks}
 use mathlib.Core.Path.{refl}
-use Rattle.record.specs.declared.Entry.{Entry}
-use Rattle.book.specs.Book.{afterEntry}
-use Rattle.book.proofs.Walks.{ordered-as}
+use Rattle.pages.specs.declared.Entry.{Entry}
+use Rattle.pages.specs.Book.{afterEntry}
+use Rattle.pages.proofs.Walks.{ordered-as}
 use borrow.Author.Needs.{needs}
 use Rattle.book.proofs.after_entry.Statement.{statement}
 use Rattle.book.proofs.after_entry.Tie as tie

@@ -1,12 +1,12 @@
-use Rattle.num.proofs.Calls.{asks}
+use Rattle.manual.proofs.Calls.{asks}
 use Prim.Native.Nat.{ℕ, _+_, _-_, _≤_}
 use mathlib.Core.Path.{_≡_, sym, ap, _∙_}
 use native.Mathlib.Omega.{arith}
 use borrow.Author.Tests.{eq-eqb, ne-eqb}
 use lib.ListN.{length}
 use denote.Ref.{now}
-use Rattle.book.specs.Book.{stepAt, walk, checkBook}
-use Rattle.book.proofs.Walks.{more-fits, walk-done, walk-refused, walk-more, check-start}
+use Rattle.pages.specs.Book.{stepAt, walk, checkBook}
+use Rattle.pages.proofs.Walks.{more-fits, walk-done, walk-refused, walk-more, check-start}
 use borrow.Author.Needs.{needs}
 use Rattle.book.proofs.check.Statement.{statement}
 use Rattle.book.proofs.check.Tie as tie

@@ -1,4 +1,4 @@
-use Rattle.book.proofs.Walks.{rises, falls, goes-on, repeats}
+use Rattle.pages.proofs.Walks.{rises, falls, goes-on, repeats}
 use Rattle.book.proofs.in_order.Statement.{statement}
 use Rattle.book.proofs.in_order.Tie as tie
 

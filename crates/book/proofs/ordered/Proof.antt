@@ -1,4 +1,4 @@
-use Rattle.num.proofs.Calls.{asks}
+use Rattle.manual.proofs.Calls.{asks}
 use Rattle.book.proofs.ordered.Statement.{statement}
 use Rattle.book.proofs.ordered.Tie as tie
 

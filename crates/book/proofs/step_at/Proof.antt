@@ -1,9 +1,9 @@
-use Rattle.num.proofs.Calls.{asks}
+use Rattle.manual.proofs.Calls.{asks}
 use native.Mathlib.Omega.{arith}
 use mathlib.Core.Path.{sym, _∙_}
-use Rattle.record.proofs.Laws.{body-fits}
-use Rattle.book.specs.Book.{stepAt, afterHead}
-use Rattle.book.proofs.Walks.{step-body}
+use Rattle.pages.proofs.Heads.{body-fits}
+use Rattle.pages.specs.Book.{stepAt, afterHead}
+use Rattle.pages.proofs.Walks.{step-body}
 use borrow.Author.Needs.{needs}
 use Rattle.book.proofs.step_at.Statement.{statement}
 use Rattle.book.proofs.step_at.Tie as tie

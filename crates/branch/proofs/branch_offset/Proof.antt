@@ -1,4 +1,4 @@
-use Rattle.num.proofs.Calls.{asks}
+use Rattle.manual.proofs.Calls.{asks}
 use Rattle.branch.proofs.Targets.{from-slot}
 use Rattle.branch.proofs.branch_offset.Statement.{statement}
 use Rattle.branch.proofs.branch_offset.Tie as tie

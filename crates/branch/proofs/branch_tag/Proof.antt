@@ -1,6 +1,6 @@
-use Rattle.num.proofs.Calls.{asks}
+use Rattle.manual.proofs.Calls.{asks}
 use mathlib.Core.Path.{sym, _∙_}
-use Rattle.checks.proofs.Chains.{start, one-way, other-way}
+use Rattle.manual.proofs.Chains.{start, one-way, other-way}
 use Rattle.manual.specs.Branch.{branchTag}
 use Rattle.branch.proofs.branch_tag.Statement.{statement}
 use Rattle.branch.proofs.branch_tag.Tie as tie

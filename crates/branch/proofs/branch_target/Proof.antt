@@ -1,4 +1,4 @@
-use Rattle.num.proofs.Calls.{asks}
+use Rattle.manual.proofs.Calls.{asks}
 use Rattle.manual.specs.Branch.{branchTo}
 use Rattle.branch.proofs.branch_target.Statement.{statement}
 use Rattle.branch.proofs.branch_target.Tie as tie

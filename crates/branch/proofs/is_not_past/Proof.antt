@@ -1,4 +1,4 @@
-use Rattle.num.proofs.Calls.{asks}
+use Rattle.manual.proofs.Calls.{asks}
 use native.Mathlib.Omega.{arith}
 use Rattle.branch.proofs.Targets.{forward, far, back, back-past}
 use borrow.Author.Needs.{needs}

@@ -1,5 +1,5 @@
-use Rattle.num.proofs.Calls.{asks}
-use Rattle.checks.specs.Checks.{settle}
+use Rattle.manual.proofs.Calls.{asks}
+use Rattle.manual.specs.Checks.{settle}
 use Rattle.manual.specs.Branch.{branch}
 use Rattle.branch.proofs.plan_branch.Statement.{statement}
 use Rattle.branch.proofs.plan_branch.Tie as tie

@@ -1,5 +1,5 @@
 use borrow.Author.Tests.{ne-eqb}
-use Rattle.cap.specs.Cap.{accessBit}
+use Rattle.manual.specs.Cap.{accessBit}
 use Rattle.cap.proofs.access_bit.Statement.{statement}
 use Rattle.cap.proofs.access_bit.Tie as tie
 

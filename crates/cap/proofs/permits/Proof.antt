@@ -1,5 +1,5 @@
 use native.Mathlib.Omega.{arith}
-use Rattle.cap.specs.Cap.{permitted}
+use Rattle.manual.specs.Cap.{permitted}
 use Rattle.cap.proofs.Perms.{none-past}
 use borrow.Author.Needs.{needs}
 use Rattle.cap.proofs.permits.Statement.{statement}

@@ -1,8 +1,8 @@
-use Rattle.num.proofs.Calls.{asks}
+use Rattle.manual.proofs.Calls.{asks}
 use native.Mathlib.Omega.{arith}
 use mathlib.Core.Path.{_∙_, ap}
 use borrow.Author.Tests.{lt-ltb, le-ltb}
-use Rattle.cap.specs.Cap.{permitted, registerOpen}
+use Rattle.manual.specs.Cap.{permitted, registerOpen}
 use Rattle.cap.proofs.register_open.Statement.{statement}
 use Rattle.cap.proofs.register_open.Tie as tie
 

@@ -1,5 +1,5 @@
-use Rattle.isa.specs.Decode.{capabilityWord}
-use Rattle.num.proofs.Calls.{asks}
+use Rattle.manual.specs.Decode.{capabilityWord}
+use Rattle.manual.proofs.Calls.{asks}
 use Rattle.capability.proofs.capability.Statement.{statement}
 use Rattle.capability.proofs.capability.Tie as tie
 

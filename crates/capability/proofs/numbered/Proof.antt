@@ -1,6 +1,6 @@
-use Rattle.isa.specs.Decode.{lookup, numbers}
-use Rattle.num.proofs.Calls.{asks}
-use Rattle.isa.proofs.Arms.{other}
+use Rattle.manual.specs.Decode.{lookup, numbers}
+use Rattle.manual.proofs.Calls.{asks}
+use Rattle.manual.proofs.Arms.{other}
 use Rattle.capability.proofs.numbered.Statement.{statement}
 use Rattle.capability.proofs.numbered.Tie as tie
 

@@ -1,5 +1,5 @@
-use Rattle.isa.specs.Decode.{lookup, kinds}
-use Rattle.isa.proofs.Arms.{other}
+use Rattle.manual.specs.Decode.{lookup, kinds}
+use Rattle.manual.proofs.Arms.{other}
 use Rattle.capability.proofs.ptr_compare.Statement.{statement}
 use Rattle.capability.proofs.ptr_compare.Tie as tie
 

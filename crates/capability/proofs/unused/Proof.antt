@@ -1,5 +1,5 @@
-use Rattle.isa.specs.Decode.{lookup, unused}
-use Rattle.isa.proofs.Arms.{other}
+use Rattle.manual.specs.Decode.{lookup, unused}
+use Rattle.manual.proofs.Arms.{other}
 use Rattle.capability.proofs.unused.Statement.{statement}
 use Rattle.capability.proofs.unused.Tie as tie
 

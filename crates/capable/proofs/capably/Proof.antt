@@ -1,8 +1,8 @@
 use borrow.Author.Needs.{needs}
-use Rattle.num.proofs.Calls.{asks}
-use Rattle.isa.specs.Word.{signed16}
-use Rattle.isa.specs.Decode.{lookup, majors, decodeWord, capabilityWord}
-use Rattle.checks.specs.Checks.{settle}
+use Rattle.manual.proofs.Calls.{asks}
+use Rattle.manual.specs.Word.{signed16}
+use Rattle.manual.specs.Decode.{lookup, majors, decodeWord, capabilityWord}
+use Rattle.manual.specs.Checks.{settle}
 use Rattle.manual.specs.Plan.{planOf}
 use Rattle.capable.proofs.Laws.{leads-amount}
 use Rattle.capable.proofs.capably.Statement.{statement}

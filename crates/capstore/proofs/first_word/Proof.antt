@@ -1,6 +1,6 @@
 use native.Mathlib.Omega.{arith}
 use mathlib.Core.Logic.{⊎-elim}
-use Rattle.line.specs.Line.{firstWord}
+use Rattle.manual.specs.Line.{firstWord}
 use borrow.Author.Needs.{needs}
 use Rattle.capstore.proofs.first_word.Statement.{statement}
 use Rattle.capstore.proofs.first_word.Tie as tie

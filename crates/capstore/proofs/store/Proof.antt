@@ -1,13 +1,13 @@
-use Rattle.num.proofs.Calls.{asks}
+use Rattle.manual.proofs.Calls.{asks}
 use Prim.Native.Nat.{_+_, _≤_}
 use lib.ListN.{length}
 use mathlib.Core.Path.{refl, sym, _∙_}
 use native.Mathlib.Omega.{arith}
 use denote.Ref.{now}
-use Rattle.mem.proofs.Places.{ram-holds}
-use Rattle.store.proofs.Stores.{put-part}
-use Rattle.line.specs.Line.{encode}
-use Rattle.line.proofs.Lines.{length-encode}
+use Rattle.manual.proofs.Places.{ram-holds}
+use Rattle.manual.proofs.Stores.{put-part}
+use Rattle.manual.specs.Line.{encode}
+use Rattle.manual.proofs.Lines.{length-encode}
 use borrow.Author.Needs.{needs}
 use Rattle.capstore.proofs.store.Statement.{statement}
 use Rattle.capstore.proofs.store.Tie as tie

@@ -1,8 +1,8 @@
-use Rattle.num.proofs.Calls.{asks}
+use Rattle.manual.proofs.Calls.{asks}
 use denote.Ref.{now}
-use Rattle.num.specs.Number.{addressAt}
-use Rattle.line.specs.Line.{encode, firstWord}
-use Rattle.line.proofs.Lines.{line-of}
+use Rattle.manual.specs.Number.{addressAt}
+use Rattle.manual.specs.Line.{encode, firstWord}
+use Rattle.manual.proofs.Lines.{line-of}
 use borrow.Author.Needs.{needs}
 use Rattle.capstore.proofs.write_line.Statement.{statement}
 use Rattle.capstore.proofs.write_line.Tie as tie

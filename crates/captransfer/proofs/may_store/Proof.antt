@@ -1,4 +1,4 @@
-use Rattle.num.proofs.Calls.{asks}
+use Rattle.manual.proofs.Calls.{asks}
 use Rattle.manual.specs.Transfer.{mayStore}
 use Rattle.captransfer.proofs.may_store.Statement.{statement}
 use Rattle.captransfer.proofs.may_store.Tie as tie

@@ -1,4 +1,4 @@
-use Rattle.num.proofs.Calls.{asks}
+use Rattle.manual.proofs.Calls.{asks}
 use Rattle.manual.specs.Plan.{planOf}
 use Rattle.carrying.proofs.Laws.{clc-amounts}
 use Rattle.carrying.proofs.load.Statement.{statement}

@@ -1,5 +1,5 @@
 use borrow.Author.Needs.{needs}
-use Rattle.num.proofs.Calls.{asks}
+use Rattle.manual.proofs.Calls.{asks}
 use Rattle.carrying.proofs.load_line.Statement.{statement}
 use Rattle.carrying.proofs.load_line.Tie as tie
 

@@ -1,5 +1,5 @@
 use borrow.Author.Needs.{needs}
-use Rattle.num.proofs.Calls.{asks}
+use Rattle.manual.proofs.Calls.{asks}
 use Rattle.manual.specs.Plan.{planOf}
 use Rattle.carrying.proofs.Laws.{csc-amounts, stores}
 use Rattle.carrying.proofs.store.Statement.{statement}

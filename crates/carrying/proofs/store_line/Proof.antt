@@ -1,6 +1,6 @@
 use mathlib.Core.Path.{refl}
 use borrow.Author.Needs.{needs}
-use Rattle.num.proofs.Calls.{asks}
+use Rattle.manual.proofs.Calls.{asks}
 use Rattle.carrying.proofs.store_line.Statement.{statement}
 use Rattle.carrying.proofs.store_line.Tie as tie
 

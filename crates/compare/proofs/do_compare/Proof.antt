@@ -1,4 +1,4 @@
-use Rattle.num.proofs.Calls.{asks}
+use Rattle.manual.proofs.Calls.{asks}
 use Rattle.manual.specs.Compare.{compares}
 use borrow.Author.Needs.{needs}
 use Rattle.compare.proofs.do_compare.Statement.{statement}

@@ -1,4 +1,4 @@
-use Rattle.num.proofs.Calls.{asks}
+use Rattle.manual.proofs.Calls.{asks}
 use Rattle.manual.specs.Compare.{isLess}
 use Rattle.compare.proofs.is_less.Statement.{statement}
 use Rattle.compare.proofs.is_less.Tie as tie

@@ -1,4 +1,4 @@
-use Rattle.num.proofs.Calls.{asks}
+use Rattle.manual.proofs.Calls.{asks}
 use mathlib.Core.Path.{_∙_}
 use Rattle.manual.specs.Compare.{isLessSigned}
 use Rattle.compare.proofs.is_less_signed.Statement.{statement}

@@ -1,6 +1,6 @@
-use Rattle.num.proofs.Calls.{asks}
+use Rattle.manual.proofs.Calls.{asks}
 use mathlib.Core.Path.{_∙_}
-use Rattle.checks.proofs.Chains.{start}
+use Rattle.manual.proofs.Chains.{start}
 use Rattle.manual.specs.Compare.{cPtrCmp}
 use Rattle.compare.proofs.ptr_compare.Statement.{statement}
 use Rattle.compare.proofs.ptr_compare.Tie as tie

@@ -8,8 +8,8 @@ use denote.Ref.{now}
 use lib.Dec.{eqb}
 use lib.ListN.{length, getD}
 use borrow.Author.Tests.{eq-eqb, ne-eqb}
-use Rattle.accept.specs.Accept.{every}
-use Rattle.accept.proofs.Scans.{begins, fails, passes, ends}
+use Rattle.manual.specs.Accept.{every}
+use Rattle.manual.proofs.Scans.{begins, fails, passes, ends}
 use Rattle.compose.proofs.all_zero.Statement.{statement}
 use Rattle.compose.proofs.all_zero.Tie as tie
 

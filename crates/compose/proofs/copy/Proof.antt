@@ -6,7 +6,7 @@ use borrow.Author.Needs.{needs}
 use denote.Ref.{now}
 use lib.ListN.{length, length-set}
 use lib.Seq.{paste, paste-zero}
-use Rattle.compose.proofs.Fields.{paste-one, paste-all}
+use Rattle.pages.proofs.Fields.{paste-one, paste-all}
 use Rattle.compose.proofs.copy.Statement.{statement}
 use Rattle.compose.proofs.copy.Tie as tie
 

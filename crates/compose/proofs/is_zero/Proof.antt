@@ -1,4 +1,4 @@
-use Rattle.num.proofs.Calls.{asks}
+use Rattle.manual.proofs.Calls.{asks}
 use Rattle.compose.proofs.is_zero.Statement.{statement}
 use Rattle.compose.proofs.is_zero.Tie as tie
 

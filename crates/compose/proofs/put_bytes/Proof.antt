@@ -1,4 +1,4 @@
-use Rattle.num.proofs.Calls.{asks}
+use Rattle.manual.proofs.Calls.{asks}
 use Prim.Native.Nat.{_+_}
 use mathlib.Core.Path.{refl, sym, _∙_}
 use native.Mathlib.Omega.{arith}
@@ -6,7 +6,7 @@ use borrow.Author.Tests.{leb-true, leb-false}
 use borrow.Author.Needs.{needs}
 use denote.Ref.{now}
 use lib.ListN.{length}
-use Rattle.store.proofs.Stores.{put-part, put-out, length-part}
+use Rattle.manual.proofs.Stores.{put-part, put-out, length-part}
 use Rattle.compose.proofs.put_bytes.Statement.{statement}
 use Rattle.compose.proofs.put_bytes.Tie as tie
 

@@ -1,4 +1,4 @@
-use Rattle.num.proofs.Calls.{asks}
+use Rattle.manual.proofs.Calls.{asks}
 use Prim.Native.Nat.{_+_, _^_, _<_}
 use mathlib.Core.List.{[], _∷_}
 use mathlib.Core.Path.{refl, sym, _∙_}
@@ -7,10 +7,10 @@ use borrow.Author.Tests.{leb-true, leb-false}
 use borrow.Author.Needs.{needs}
 use denote.Ref.{now}
 use lib.ListN.{length}
-use Rattle.store.specs.Store.{bit}
-use Rattle.store.proofs.Stores.{put-out}
-use Rattle.compose.specs.Compose.{recordOf, lineBody}
-use Rattle.compose.proofs.Fields.{bytes-put, line-bytes}
+use Rattle.manual.specs.Store.{bit}
+use Rattle.manual.proofs.Stores.{put-out}
+use Rattle.pages.specs.Compose.{recordOf, lineBody}
+use Rattle.pages.proofs.Fields.{bytes-put, line-bytes}
 use Rattle.compose.proofs.put_line.Statement.{statement}
 use Rattle.compose.proofs.put_line.Tie as tie
 

@@ -1,8 +1,8 @@
-use Rattle.num.proofs.Calls.{asks}
+use Rattle.manual.proofs.Calls.{asks}
 use native.Mathlib.Omega.{arith}
-use Rattle.num.specs.Number.{plusMod}
-use Rattle.num.proofs.Numbers.{difference}
-use Rattle.compute.specs.Compute.{computeOf}
+use Rattle.manual.specs.Number.{plusMod}
+use Rattle.manual.proofs.Numbers.{difference}
+use Rattle.manual.specs.Compute.{computeOf}
 use borrow.Author.Needs.{needs}
 use Rattle.compute.proofs.compute.Statement.{statement}
 use Rattle.compute.proofs.compute.Tie as tie

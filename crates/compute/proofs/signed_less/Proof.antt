@@ -1,6 +1,6 @@
-use Rattle.num.proofs.Calls.{asks}
-use Rattle.num.specs.Number.{plusMod}
-use Rattle.compute.specs.Compute.{signedLess}
+use Rattle.manual.proofs.Calls.{asks}
+use Rattle.manual.specs.Number.{plusMod}
+use Rattle.manual.specs.Compute.{signedLess}
 use Rattle.compute.proofs.signed_less.Statement.{statement}
 use Rattle.compute.proofs.signed_less.Tie as tie
 

@@ -1,6 +1,6 @@
 use mathlib.Core.Path.{sym, refl, _∙_}
 use native.Mathlib.Omega.{arith}
-use Rattle.num.proofs.Calls.{asks}
+use Rattle.manual.proofs.Calls.{asks}
 use Rattle.data.proofs.Reaches.{all-near, a-line-at-most, near-lands, lands-not}
 use Rattle.data.proofs.near.Statement.{statement}
 use Rattle.data.proofs.near.Tie as tie

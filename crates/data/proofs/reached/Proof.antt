@@ -1,4 +1,4 @@
-use Rattle.num.proofs.Calls.{asks}
+use Rattle.manual.proofs.Calls.{asks}
 use Rattle.data.proofs.Reaches.{reaches, reaches-not}
 use Rattle.data.proofs.reached.Statement.{statement}
 use Rattle.data.proofs.reached.Tie as tie

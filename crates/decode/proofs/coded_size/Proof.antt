@@ -1,5 +1,5 @@
-use Rattle.isa.specs.Decode.{lookup, codedSize}
-use Rattle.isa.proofs.Arms.{other}
+use Rattle.manual.specs.Decode.{lookup, codedSize}
+use Rattle.manual.proofs.Arms.{other}
 use Rattle.decode.proofs.coded_size.Statement.{statement}
 use Rattle.decode.proofs.coded_size.Tie as tie
 

@@ -1,7 +1,7 @@
 use borrow.Author.Needs.{needs}
-use Rattle.isa.specs.Decode.{lookup, majors, decodeWord}
-use Rattle.num.proofs.Calls.{asks}
-use Rattle.isa.proofs.Arms.{other}
+use Rattle.manual.specs.Decode.{lookup, majors, decodeWord}
+use Rattle.manual.proofs.Calls.{asks}
+use Rattle.manual.proofs.Arms.{other}
 use Rattle.decode.proofs.decode.Statement.{statement}
 use Rattle.decode.proofs.decode.Tie as tie
 

@@ -1,6 +1,6 @@
 use borrow.Author.Tests.{eq-eqb, ne-eqb}
-use Rattle.isa.specs.Decode.{loadWord}
-use Rattle.num.proofs.Calls.{asks}
+use Rattle.manual.specs.Decode.{loadWord}
+use Rattle.manual.proofs.Calls.{asks}
 use Rattle.decode.proofs.load.Statement.{statement}
 use Rattle.decode.proofs.load.Tie as tie
 

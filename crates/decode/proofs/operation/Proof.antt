@@ -1,5 +1,5 @@
-use Rattle.isa.specs.Decode.{lookup, operations}
-use Rattle.isa.proofs.Arms.{other}
+use Rattle.manual.specs.Decode.{lookup, operations}
+use Rattle.manual.proofs.Arms.{other}
 use Rattle.decode.proofs.operation.Statement.{statement}
 use Rattle.decode.proofs.operation.Tie as tie
 

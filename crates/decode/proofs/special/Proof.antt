@@ -1,7 +1,7 @@
 use mathlib.Core.Path.{_∙_, ap}
-use Rattle.isa.specs.Decode.{lookup, ifZero, specialWord}
-use Rattle.num.proofs.Calls.{asks}
-use Rattle.isa.proofs.Arms.{other}
+use Rattle.manual.specs.Decode.{lookup, ifZero, specialWord}
+use Rattle.manual.proofs.Calls.{asks}
+use Rattle.manual.proofs.Arms.{other}
 use Rattle.decode.proofs.special.Statement.{statement}
 use Rattle.decode.proofs.special.Tie as tie
 

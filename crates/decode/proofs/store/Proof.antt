@@ -1,5 +1,5 @@
-use Rattle.isa.specs.Decode.{storeWord}
-use Rattle.num.proofs.Calls.{asks}
+use Rattle.manual.specs.Decode.{storeWord}
+use Rattle.manual.proofs.Calls.{asks}
 use Rattle.decode.proofs.store.Statement.{statement}
 use Rattle.decode.proofs.store.Tie as tie
 

@@ -1,8 +1,8 @@
 use borrow.Author.Needs.{needs}
-use Rattle.num.proofs.Calls.{asks}
-use Rattle.isa.specs.declared.Instr.{Instr}
-use Rattle.isa.specs.Word.{below}
-use Rattle.isa.specs.Decode.{lookup, numbers, unused, capabilityWord}
+use Rattle.manual.proofs.Calls.{asks}
+use Rattle.manual.specs.declared.Instr.{Instr}
+use Rattle.manual.specs.Word.{below}
+use Rattle.manual.specs.Decode.{lookup, numbers, unused, capabilityWord}
 use Rattle.manual.specs.Plan.{planOf}
 use Rattle.deriving.proofs.Laws.{leads, Tests, tested, and-perm, clear-tag, inc-base, set-len, set-offset, inc-offset}
 use Rattle.deriving.proofs.derived.Statement.{statement}

@@ -1,4 +1,4 @@
-use Rattle.num.proofs.Calls.{asks}
+use Rattle.manual.proofs.Calls.{asks}
 use mathlib.Core.Path.{refl}
 use Rattle.manual.specs.Perform.{turnOf, ramOf, tagsOf}
 use borrow.Author.Needs.{needs}

@@ -1,4 +1,4 @@
-use Rattle.num.proofs.Calls.{asks}
+use Rattle.manual.proofs.Calls.{asks}
 use Rattle.ending.proofs.refused.Statement.{statement}
 use Rattle.ending.proofs.refused.Tie as tie
 

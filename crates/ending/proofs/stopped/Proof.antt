@@ -1,5 +1,5 @@
-use Rattle.num.proofs.Calls.{asks}
-use Rattle.state.specs.State.{stoppedAt}
+use Rattle.manual.proofs.Calls.{asks}
+use Rattle.manual.specs.State.{stoppedAt}
 use Rattle.ending.proofs.stopped.Statement.{statement}
 use Rattle.ending.proofs.stopped.Tie as tie
 

@@ -1,5 +1,5 @@
-use Rattle.num.proofs.Calls.{asks}
-use Rattle.enter.specs.Enter.{judged}
+use Rattle.manual.proofs.Calls.{asks}
+use Rattle.pages.specs.Enter.{judged}
 use Rattle.enter.proofs.judge.Statement.{statement}
 use Rattle.enter.proofs.judge.Tie as tie
 

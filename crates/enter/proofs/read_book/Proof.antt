@@ -1,7 +1,7 @@
-use Rattle.num.proofs.Calls.{asks}
+use Rattle.manual.proofs.Calls.{asks}
 use mathlib.Core.Path.{refl, sym, _∙_}
 use borrow.Author.Needs.{needs}
-use Rattle.enter.specs.Enter.{readBook}
+use Rattle.pages.specs.Enter.{readBook}
 use Rattle.enter.proofs.read_book.Statement.{statement}
 use Rattle.enter.proofs.read_book.Tie as tie
 

@@ -1,14 +1,14 @@
-use Rattle.num.proofs.Calls.{asks}
+use Rattle.manual.proofs.Calls.{asks}
 use Prim.Native.Nat.{ℕ, _+_, _-_, _≤_}
 use mathlib.Core.Path.{_≡_, refl, sym, ap, _∙_}
 use native.Mathlib.Omega.{arith}
 use borrow.Author.Needs.{needs}
 use lib.ListN.{length}
 use denote.Ref.{now}
-use Rattle.book.specs.Book.{stepAt}
-use Rattle.book.proofs.Walks.{more-fits}
-use Rattle.entering.specs.Entering.{Start, enterAll, enterBook, bare}
-use Rattle.entering.proofs.Enters.{holding, begins, ends, breaks, goes-on, registered, there, enters}
+use Rattle.pages.specs.Book.{stepAt}
+use Rattle.pages.proofs.Walks.{more-fits}
+use Rattle.pages.specs.Entering.{Start, enterAll, enterBook, bare}
+use Rattle.pages.proofs.Enters.{holding, begins, ends, breaks, goes-on, registered, there, enters}
 use Rattle.entering.proofs.enter_all.Statement.{statement}
 use Rattle.entering.proofs.enter_all.Tie as tie
 

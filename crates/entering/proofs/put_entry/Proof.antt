@@ -1,13 +1,13 @@
-use Rattle.num.proofs.Calls.{asks}
+use Rattle.manual.proofs.Calls.{asks}
 use Prim.Native.Nat.{_+_, _-_, _≤_}
 use mathlib.Core.Path.{refl}
 use native.Mathlib.Omega.{arith}
 use borrow.Author.Needs.{needs}
 use lib.ListN.{length}
 use denote.Ref.{now}
-use Rattle.mem.specs.Place.{RAM-BASE}
-use Rattle.entering.specs.Entering.{ramWith, tagsWith}
-use Rattle.entering.proofs.Enters.{copied, is-line}
+use Rattle.manual.specs.Place.{RAM-BASE}
+use Rattle.pages.specs.Entering.{ramWith, tagsWith}
+use Rattle.pages.proofs.Enters.{copied, is-line}
 use Rattle.entering.proofs.put_entry.Statement.{statement}
 use Rattle.entering.proofs.put_entry.Tie as tie
 

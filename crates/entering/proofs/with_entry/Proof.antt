@@ -1,6 +1,6 @@
 use borrow.Author.Needs.{needs}
-use Rattle.entering.specs.Entering.{machineWith}
-use Rattle.entering.proofs.Enters.{is-register}
+use Rattle.pages.specs.Entering.{machineWith}
+use Rattle.pages.proofs.Enters.{is-register}
 use Rattle.entering.proofs.with_entry.Statement.{statement}
 use Rattle.entering.proofs.with_entry.Tie as tie
 

@@ -1,4 +1,4 @@
-use Rattle.num.proofs.Calls.{asks}
+use Rattle.manual.proofs.Calls.{asks}
 use Rattle.entering.proofs.zero_machine.Statement.{statement}
 use Rattle.entering.proofs.zero_machine.Tie as tie
 

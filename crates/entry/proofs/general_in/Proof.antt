@@ -1,6 +1,6 @@
-use Rattle.num.proofs.Calls.{asks}
+use Rattle.manual.proofs.Calls.{asks}
 use borrow.Author.Tests.{eq-eqb, ne-eqb}
-use Rattle.entry.specs.Entry.{generalOf}
+use Rattle.pages.specs.Entry.{generalOf}
 use borrow.Author.Needs.{needs}
 use Rattle.entry.proofs.general_in.Statement.{statement}
 use Rattle.entry.proofs.general_in.Tie as tie

@@ -1,5 +1,5 @@
 use native.Mathlib.Omega.{arith}
-use Rattle.entry.proofs.Laws.{below, between, within, past}
+use Rattle.pages.proofs.Entries.{below, between, within, past}
 use Rattle.entry.proofs.is_line.Statement.{statement}
 use Rattle.entry.proofs.is_line.Tie as tie
 

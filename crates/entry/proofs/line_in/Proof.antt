@@ -1,6 +1,6 @@
-use Rattle.num.proofs.Calls.{asks}
+use Rattle.manual.proofs.Calls.{asks}
 use borrow.Author.Tests.{eq-eqb, ne-eqb}
-use Rattle.entry.specs.Entry.{lineOf}
+use Rattle.pages.specs.Entry.{lineOf}
 use borrow.Author.Needs.{needs}
 use Rattle.entry.proofs.line_in.Statement.{statement}
 use Rattle.entry.proofs.line_in.Tie as tie

@@ -1,4 +1,4 @@
-use Rattle.num.proofs.Calls.{asks}
+use Rattle.manual.proofs.Calls.{asks}
 use borrow.Author.Needs.{needs}
 use Rattle.fetch.proofs.ahead.Statement.{statement}
 use Rattle.fetch.proofs.ahead.Tie as tie

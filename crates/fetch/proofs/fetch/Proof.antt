@@ -1,8 +1,8 @@
-use Rattle.num.proofs.Calls.{asks}
-use Rattle.access.specs.Access.{accessOf}
+use Rattle.manual.proofs.Calls.{asks}
+use Rattle.manual.specs.Access.{accessOf}
 use mathlib.Core.Path.{sym, _∙_}
 use borrow.Author.Tests.{not-true, not-false}
-use Rattle.fetch.specs.Fetch.{fetchOf}
+use Rattle.manual.specs.Fetch.{fetchOf}
 use borrow.Author.Needs.{needs}
 use Rattle.fetch.proofs.fetch.Statement.{statement}
 use Rattle.fetch.proofs.fetch.Tie as tie

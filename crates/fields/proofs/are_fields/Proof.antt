@@ -1,4 +1,4 @@
-use Rattle.num.proofs.Calls.{asks}
+use Rattle.manual.proofs.Calls.{asks}
 use Rattle.fields.proofs.are_fields.Statement.{statement}
 use Rattle.fields.proofs.are_fields.Tie as tie
 

@@ -1,5 +1,5 @@
-use Rattle.num.proofs.Calls.{asks}
-use Rattle.fields.specs.Fields.{capOf}
+use Rattle.manual.proofs.Calls.{asks}
+use Rattle.pages.specs.Fields.{capOf}
 use borrow.Author.Needs.{needs}
 use Rattle.fields.proofs.cap_in.Statement.{statement}
 use Rattle.fields.proofs.cap_in.Tie as tie

@@ -1,6 +1,6 @@
-use Rattle.num.proofs.Calls.{asks}
+use Rattle.manual.proofs.Calls.{asks}
 use borrow.Author.Tests.{eq-eqb, ne-eqb}
-use Rattle.fields.specs.Fields.{capabilityOf}
+use Rattle.pages.specs.Fields.{capabilityOf}
 use borrow.Author.Needs.{needs}
 use Rattle.fields.proofs.capability_in.Statement.{statement}
 use Rattle.fields.proofs.capability_in.Tie as tie

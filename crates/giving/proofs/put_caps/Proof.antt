@@ -2,17 +2,17 @@ use Prim.Native.Nat.{ℕ, _+_, _-_, _*_, _≤_}
 use mathlib.Core.Path.{_≡_, sym, subst}
 use mathlib.Core.List.{List}
 use native.Mathlib.Omega.{arith}
-use Rattle.num.proofs.Calls.{asks}
+use Rattle.manual.proofs.Calls.{asks}
 use borrow.Author.Needs.{needs}
 use denote.Ref.{now}
 use lib.ListN.{getD}
-use Rattle.cap.specs.declared.Cap.{Cap}
-use Rattle.narrow.specs.Narrow.{null}
-use Rattle.compose.specs.Compose.{recordOf, capBody}
-use Rattle.compose.proofs.Fields.{cap-bytes}
-use Rattle.naming.specs.Run.{pieces, Runs}
-use Rattle.naming.proofs.Runs.{run-begins, run-next}
-use Rattle.giving.specs.Registers.{capRecords}
+use Rattle.manual.specs.declared.Cap.{Cap}
+use Rattle.manual.specs.Narrow.{null}
+use Rattle.pages.specs.Compose.{recordOf, capBody}
+use Rattle.pages.proofs.Fields.{cap-bytes}
+use Rattle.pages.specs.Runs.{pieces, Runs}
+use Rattle.pages.proofs.RunLaws.{run-begins, run-next}
+use Rattle.pages.specs.Registers.{capRecords}
 use Rattle.giving.proofs.put_caps.Statement.{statement}
 use Rattle.giving.proofs.put_caps.Tie as tie
 

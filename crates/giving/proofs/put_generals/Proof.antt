@@ -2,15 +2,15 @@ use Prim.Native.Nat.{ℕ, _+_, _-_, _*_, _≤_}
 use mathlib.Core.Path.{_≡_, sym, subst}
 use mathlib.Core.List.{List}
 use native.Mathlib.Omega.{arith}
-use Rattle.num.proofs.Calls.{asks}
+use Rattle.manual.proofs.Calls.{asks}
 use borrow.Author.Needs.{needs}
 use denote.Ref.{now}
 use lib.ListN.{getD}
-use Rattle.compose.specs.Compose.{recordOf, generalBody}
-use Rattle.compose.proofs.Fields.{general-bytes}
-use Rattle.naming.specs.Run.{pieces, Runs}
-use Rattle.naming.proofs.Runs.{run-begins, run-next}
-use Rattle.giving.specs.Registers.{generalRecords}
+use Rattle.pages.specs.Compose.{recordOf, generalBody}
+use Rattle.pages.proofs.Fields.{general-bytes}
+use Rattle.pages.specs.Runs.{pieces, Runs}
+use Rattle.pages.proofs.RunLaws.{run-begins, run-next}
+use Rattle.pages.specs.Registers.{generalRecords}
 use Rattle.giving.proofs.put_generals.Statement.{statement}
 use Rattle.giving.proofs.put_generals.Tie as tie
 

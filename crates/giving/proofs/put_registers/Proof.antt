@@ -1,8 +1,8 @@
 use native.Mathlib.Omega.{arith}
-use Rattle.num.proofs.Calls.{asks}
+use Rattle.manual.proofs.Calls.{asks}
 use borrow.Author.Needs.{needs}
 use denote.Ref.{now}
-use Rattle.giving.proofs.Registers.{registers-run, registers-out, registers-put}
+use Rattle.pages.proofs.Registers.{registers-run, registers-out, registers-put}
 use Rattle.giving.proofs.put_registers.Statement.{statement}
 use Rattle.giving.proofs.put_registers.Tie as tie
 

@@ -4,9 +4,9 @@ use native.Mathlib.Omega.{arith}
 use borrow.Author.Needs.{needs}
 use lib.ListN.{length}
 use denote.Ref.{now}
-use Rattle.num.proofs.Calls.{asks}
-use Rattle.narrow.specs.Narrow.{setOffset}
-use Rattle.core.specs.declared.Pending.{Pending}
+use Rattle.manual.proofs.Calls.{asks}
+use Rattle.manual.specs.Narrow.{setOffset}
+use Rattle.manual.specs.declared.Pending.{Pending}
 use Rattle.way.specs.Way.{waitingAt}
 use Rattle.slide.specs.Slide.{Glides}
 use Rattle.slide.proofs.Slides.{starts}

@@ -1,4 +1,4 @@
-use Rattle.num.proofs.Calls.{asks}
+use Rattle.manual.proofs.Calls.{asks}
 use borrow.Author.Needs.{needs}
 use Rattle.glide.proofs.ride.Statement.{statement}
 use Rattle.glide.proofs.ride.Tie as tie

@@ -1,9 +1,9 @@
 use mathlib.Core.Path.{refl}
-use Rattle.num.proofs.Calls.{asks}
+use Rattle.manual.proofs.Calls.{asks}
 use borrow.Author.Needs.{needs}
 use borrow.Author.Tests.{lt-leb}
-use Rattle.giving.specs.Registers.{REGISTERS}
-use Rattle.handing.specs.Handing.{readInto}
+use Rattle.pages.specs.Registers.{REGISTERS}
+use Rattle.pages.specs.Handing.{readInto}
 use Rattle.handing.proofs.Laws.{started}
 use Rattle.handing.proofs.read_into.Statement.{statement}
 use Rattle.handing.proofs.read_into.Tie as tie

@@ -3,8 +3,8 @@ use mathlib.Core.Path.{_≡_, _∙_}
 use native.Mathlib.Nat.{div-eq-of-lt, div-eq-sub-div, mod-eq-of-lt, mod-eq-sub-mod}
 use native.Mathlib.Omega.{arith}
 use borrow.Author.Needs.{needs}
-use Rattle.num.specs.Number.{extendFrom}
-use Rattle.num.proofs.Numbers.{roomy, carried}
+use Rattle.manual.specs.Number.{extendFrom}
+use Rattle.manual.proofs.Numbers.{roomy, carried}
 use Rattle.immediate.proofs.extend.Statement.{statement}
 use Rattle.immediate.proofs.extend.Tie as tie
 

@@ -1,4 +1,4 @@
-use Rattle.num.proofs.Calls.{asks}
+use Rattle.manual.proofs.Calls.{asks}
 use Prim.Native.Nat.{_+_, _^_, _<_}
 use mathlib.Core.List.{[], _∷_}
 use mathlib.Core.Path.{sym, _∙_, ap}
@@ -7,10 +7,10 @@ use borrow.Author.Tests.{leb-true, leb-false}
 use borrow.Author.Needs.{needs}
 use denote.Ref.{now}
 use lib.ListN.{length}
-use Rattle.store.specs.Store.{bit}
-use Rattle.store.proofs.Stores.{put-out, length-put}
-use Rattle.compose.specs.Compose.{recordOf, capBody}
-use Rattle.compose.proofs.Fields.{after, told, record-put, cap-bytes}
+use Rattle.manual.specs.Store.{bit}
+use Rattle.manual.proofs.Stores.{put-out, length-put}
+use Rattle.pages.specs.Compose.{recordOf, capBody}
+use Rattle.pages.proofs.Fields.{after, told, record-put, cap-bytes}
 use Rattle.inscribe.proofs.put_cap.Statement.{statement}
 use Rattle.inscribe.proofs.put_cap.Tie as tie
 

@@ -1,4 +1,4 @@
-use Rattle.num.proofs.Calls.{asks}
+use Rattle.manual.proofs.Calls.{asks}
 use Prim.Native.Nat.{_+_, _^_, _<_}
 use mathlib.Core.List.{[], _∷_}
 use mathlib.Core.Path.{sym, _∙_}
@@ -7,9 +7,9 @@ use borrow.Author.Tests.{leb-true, leb-false}
 use borrow.Author.Needs.{needs}
 use denote.Ref.{now}
 use lib.ListN.{length}
-use Rattle.store.proofs.Stores.{put-out}
-use Rattle.compose.specs.Compose.{recordOf, generalBody}
-use Rattle.compose.proofs.Fields.{record-put, general-bytes}
+use Rattle.manual.proofs.Stores.{put-out}
+use Rattle.pages.specs.Compose.{recordOf, generalBody}
+use Rattle.pages.proofs.Fields.{record-put, general-bytes}
 use Rattle.inscribe.proofs.put_general.Statement.{statement}
 use Rattle.inscribe.proofs.put_general.Tie as tie
 

@@ -1,4 +1,4 @@
-use Rattle.num.proofs.Calls.{asks}
+use Rattle.manual.proofs.Calls.{asks}
 use Rattle.manual.specs.Inspect.{pointerOf}
 use Rattle.inspect.proofs.pointer_of.Statement.{statement}
 use Rattle.inspect.proofs.pointer_of.Tie as tie

@@ -1,6 +1,6 @@
-use Rattle.num.proofs.Calls.{asks}
+use Rattle.manual.proofs.Calls.{asks}
 use mathlib.Core.Path.{_∙_}
-use Rattle.checks.proofs.Chains.{start}
+use Rattle.manual.proofs.Chains.{start}
 use Rattle.manual.specs.Inspect.{cToPtr}
 use Rattle.inspect.proofs.to_ptr.Statement.{statement}
 use Rattle.inspect.proofs.to_ptr.Tie as tie

@@ -1,5 +1,5 @@
 use borrow.Author.Tests.{eq-eqb, ne-eqb}
-use Rattle.isa.specs.Decode.{ifZero}
+use Rattle.manual.specs.Decode.{ifZero}
 use Rattle.isa.proofs.if_zero.Statement.{statement}
 use Rattle.isa.proofs.if_zero.Tie as tie
 

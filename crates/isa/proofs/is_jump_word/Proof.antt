@@ -1,6 +1,6 @@
 use borrow.Author.Tests.{le-leb, lt-leb}
-use Rattle.isa.specs.Decode.{lookup, isJumpWord}
-use Rattle.isa.proofs.Arms.{other}
+use Rattle.manual.specs.Decode.{lookup, isJumpWord}
+use Rattle.manual.proofs.Arms.{other}
 use Rattle.isa.proofs.is_jump_word.Statement.{statement}
 use Rattle.isa.proofs.is_jump_word.Tie as tie
 

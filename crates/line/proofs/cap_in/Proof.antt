@@ -1,7 +1,7 @@
 use mathlib.Core.Path.{ap}
 use borrow.Author.Tests.{eq-eqb, ne-eqb}
-use Rattle.line.specs.Line.{capIn}
-use Rattle.line.specs.declared.LoadedCap.{LoadedCap}
+use Rattle.manual.specs.Line.{capIn}
+use Rattle.manual.specs.declared.LoadedCap.{LoadedCap}
 use borrow.Author.Needs.{needs}
 use Rattle.line.proofs.cap_in.Statement.{statement}
 use Rattle.line.proofs.cap_in.Tie as tie

@@ -1,5 +1,5 @@
-use Rattle.num.proofs.Calls.{asks}
-use Rattle.line.specs.Line.{loadCap}
+use Rattle.manual.proofs.Calls.{asks}
+use Rattle.manual.specs.Line.{loadCap}
 use Rattle.line.proofs.load.Statement.{statement}
 use Rattle.line.proofs.load.Tie as tie
 

@@ -1,5 +1,5 @@
-use Rattle.num.proofs.Calls.{asks}
-use Rattle.line.specs.Line.{decode, fromWords, word}
+use Rattle.manual.proofs.Calls.{asks}
+use Rattle.manual.specs.Line.{decode, fromWords, word}
 use borrow.Author.Needs.{needs}
 use Rattle.line.proofs.read_line.Statement.{statement}
 use Rattle.line.proofs.read_line.Tie as tie

@@ -1,6 +1,6 @@
-use Rattle.num.proofs.Calls.{asks}
+use Rattle.manual.proofs.Calls.{asks}
 use mathlib.Core.Path.{refl, sym, _∙_}
-use Rattle.state.specs.Run.{runOf}
+use Rattle.manual.specs.Run.{runOf}
 use borrow.Author.Needs.{needs}
 use Rattle.machine.proofs.run.Statement.{statement}
 use Rattle.machine.proofs.run.Tie as tie

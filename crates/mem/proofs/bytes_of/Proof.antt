@@ -1,9 +1,9 @@
-use Rattle.num.proofs.Calls.{asks}
+use Rattle.manual.proofs.Calls.{asks}
 use mathlib.Core.Path.{sym, _∙_}
 use native.Mathlib.Omega.{arith}
 use native.Mathlib.Nat.{add-sub-cancel-left}
 use borrow.Author.Tests.{lt-ltb, le-ltb, leb-true}
-use Rattle.mem.specs.Place.{bytesOf, placeOf}
+use Rattle.manual.specs.Place.{bytesOf, placeOf}
 use borrow.Author.Needs.{needs}
 use Rattle.mem.proofs.bytes_of.Statement.{statement}
 use Rattle.mem.proofs.bytes_of.Tie as tie

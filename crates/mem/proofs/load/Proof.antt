@@ -1,6 +1,6 @@
-use Rattle.num.proofs.Calls.{asks}
+use Rattle.manual.proofs.Calls.{asks}
 use mathlib.Core.Path.{_∙_, ap}
-use Rattle.mem.specs.Place.{numberOf}
+use Rattle.manual.specs.Place.{numberOf}
 use Rattle.mem.proofs.load.Statement.{statement}
 use Rattle.mem.proofs.load.Tie as tie
 

@@ -1,8 +1,8 @@
-use Rattle.num.proofs.Calls.{asks}
+use Rattle.manual.proofs.Calls.{asks}
 use mathlib.Core.Path.{ap}
 use borrow.Author.Tests.{eq-eqb, ne-eqb}
-use Rattle.mem.specs.Place.{numberOf}
-use Rattle.mem.specs.declared.Loaded.{Loaded}
+use Rattle.manual.specs.Place.{numberOf}
+use Rattle.manual.specs.declared.Loaded.{Loaded}
 use Rattle.mem.proofs.number_of.Statement.{statement}
 use Rattle.mem.proofs.number_of.Tie as tie
 

@@ -1,6 +1,6 @@
-use Rattle.num.proofs.Calls.{asks}
+use Rattle.manual.proofs.Calls.{asks}
 use borrow.Author.Tests.{lt-ltb, le-ltb}
-use Rattle.mem.specs.Place.{placeOf}
+use Rattle.manual.specs.Place.{placeOf}
 use Rattle.mem.proofs.place_of.Statement.{statement}
 use Rattle.mem.proofs.place_of.Tie as tie
 

@@ -1,5 +1,5 @@
 use borrow.Author.Needs.{needs}
-use Rattle.num.proofs.Calls.{asks}
+use Rattle.manual.proofs.Calls.{asks}
 use Rattle.manual.specs.Plan.{planOf}
 use Rattle.moving.proofs.Laws.{load-amounts}
 use Rattle.moving.proofs.loads.Statement.{statement}

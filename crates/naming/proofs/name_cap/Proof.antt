@@ -1,9 +1,9 @@
-use Rattle.num.proofs.Calls.{asks}
+use Rattle.manual.proofs.Calls.{asks}
 use mathlib.Core.Path.{sym, _∙_}
 use borrow.Author.Needs.{needs}
-use Rattle.compose.proofs.Fields.{cap-bytes}
-use Rattle.naming.specs.Naming.{capPiece}
-use Rattle.naming.proofs.Pieces.{skipped, spelled}
+use Rattle.pages.proofs.Fields.{cap-bytes}
+use Rattle.pages.specs.Naming.{capPiece}
+use Rattle.pages.proofs.Pieces.{skipped, spelled}
 use Rattle.naming.proofs.name_cap.Statement.{statement}
 use Rattle.naming.proofs.name_cap.Tie as tie
 

@@ -1,9 +1,9 @@
-use Rattle.num.proofs.Calls.{asks}
+use Rattle.manual.proofs.Calls.{asks}
 use borrow.Author.Needs.{needs}
 use borrow.Author.Tests.{eq-eqb, ne-eqb}
-use Rattle.compose.proofs.Fields.{general-bytes}
-use Rattle.naming.specs.Naming.{generalPiece}
-use Rattle.naming.proofs.Pieces.{skipped, spelled}
+use Rattle.pages.proofs.Fields.{general-bytes}
+use Rattle.pages.specs.Naming.{generalPiece}
+use Rattle.pages.proofs.Pieces.{skipped, spelled}
 use Rattle.naming.proofs.name_general.Statement.{statement}
 use Rattle.naming.proofs.name_general.Tie as tie
 

@@ -1,7 +1,7 @@
-use Rattle.num.proofs.Calls.{asks}
+use Rattle.manual.proofs.Calls.{asks}
 use borrow.Author.Needs.{needs}
 use denote.Ref.{now}
-use Rattle.naming.proofs.Pieces.{line-skipped, line-spelled}
+use Rattle.pages.proofs.Pieces.{line-skipped, line-spelled}
 use Rattle.naming.proofs.name_line.Statement.{statement}
 use Rattle.naming.proofs.name_line.Tie as tie
 

@@ -1,5 +1,5 @@
-use Rattle.num.proofs.Calls.{asks}
-use Rattle.narrow.specs.Narrow.{andGlobal}
+use Rattle.manual.proofs.Calls.{asks}
+use Rattle.manual.specs.Narrow.{andGlobal}
 use borrow.Author.Needs.{needs}
 use Rattle.narrow.proofs.and_global.Statement.{statement}
 use Rattle.narrow.proofs.and_global.Tie as tie

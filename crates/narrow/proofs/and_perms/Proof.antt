@@ -1,5 +1,5 @@
 use mathlib.Core.Path.{refl}
-use Rattle.narrow.specs.Narrow.{andPerms}
+use Rattle.manual.specs.Narrow.{andPerms}
 use borrow.Author.Needs.{needs}
 use Rattle.narrow.proofs.and_perms.Statement.{statement}
 use Rattle.narrow.proofs.and_perms.Tie as tie

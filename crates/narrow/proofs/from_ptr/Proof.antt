@@ -1,7 +1,7 @@
-use Rattle.num.proofs.Calls.{asks}
+use Rattle.manual.proofs.Calls.{asks}
 use native.Mathlib.Omega.{arith}
 use borrow.Author.Tests.{eq-eqb, ne-eqb}
-use Rattle.narrow.specs.Narrow.{fromPtr}
+use Rattle.manual.specs.Narrow.{fromPtr}
 use Rattle.narrow.proofs.from_ptr.Statement.{statement}
 use Rattle.narrow.proofs.from_ptr.Tie as tie
 

@@ -1,7 +1,7 @@
-use Rattle.num.proofs.Calls.{asks}
+use Rattle.manual.proofs.Calls.{asks}
 use native.Mathlib.Omega.{arith}
-use Rattle.num.proofs.Numbers.{difference}
-use Rattle.narrow.specs.Narrow.{incBase}
+use Rattle.manual.proofs.Numbers.{difference}
+use Rattle.manual.specs.Narrow.{incBase}
 use Rattle.narrow.proofs.inc_base.Statement.{statement}
 use Rattle.narrow.proofs.inc_base.Tie as tie
 

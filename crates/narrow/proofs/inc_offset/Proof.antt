@@ -1,6 +1,6 @@
-use Rattle.num.proofs.Calls.{asks}
+use Rattle.manual.proofs.Calls.{asks}
 use mathlib.Core.Path.{ap}
-use Rattle.narrow.specs.Narrow.{withOffset, incOffset}
+use Rattle.manual.specs.Narrow.{withOffset, incOffset}
 use Rattle.narrow.proofs.inc_offset.Statement.{statement}
 use Rattle.narrow.proofs.inc_offset.Tie as tie
 

@@ -1,8 +1,8 @@
-use Rattle.num.proofs.Calls.{asks}
+use Rattle.manual.proofs.Calls.{asks}
 use mathlib.Core.Path.{ap}
 use mathlib.Core.Bool.{true}
-use Rattle.narrow.specs.Narrow.{withSeal, sealedBy}
-use Rattle.narrow.proofs.Narrows.{type-of}
+use Rattle.manual.specs.Narrow.{withSeal, sealedBy}
+use Rattle.manual.proofs.Narrows.{type-of}
 use borrow.Author.Needs.{needs}
 use Rattle.narrow.proofs.seal.Statement.{statement}
 use Rattle.narrow.proofs.seal.Tie as tie

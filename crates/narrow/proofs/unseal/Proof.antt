@@ -1,7 +1,7 @@
-use Rattle.num.proofs.Calls.{asks}
+use Rattle.manual.proofs.Calls.{asks}
 use mathlib.Core.Path.{ap}
 use mathlib.Core.Bool.{false}
-use Rattle.narrow.specs.Narrow.{withPerms, withSeal, unsealedBy}
+use Rattle.manual.specs.Narrow.{withPerms, withSeal, unsealedBy}
 use Rattle.narrow.proofs.unseal.Statement.{statement}
 use Rattle.narrow.proofs.unseal.Tie as tie
 

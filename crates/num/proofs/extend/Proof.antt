@@ -1,4 +1,4 @@
-use Rattle.num.proofs.Calls.{asks}
+use Rattle.manual.proofs.Calls.{asks}
 use borrow.Author.Needs.{needs}
 use Rattle.num.proofs.extend.Statement.{statement}
 use Rattle.num.proofs.extend.Tie as tie

@@ -1,4 +1,4 @@
-use Rattle.num.proofs.Numbers.{carried, kept}
+use Rattle.manual.proofs.Numbers.{carried, kept}
 use native.Mathlib.Omega.{arith}
 use native.Mathlib.Nat.{mod-lt}
 use borrow.Author.Needs.{needs}

@@ -6,8 +6,8 @@ use native.Mathlib.Omega.{arith}
 use lib.ListN.{length, take}
 use lib.Seq.{take-all}
 use denote.Ref.{now}
-use Rattle.num.specs.Number.{be}
-use Rattle.num.proofs.Numbers.{be-step}
+use Rattle.manual.specs.Number.{be}
+use Rattle.manual.proofs.Numbers.{be-step}
 use Rattle.num.proofs.load_be.Statement.{statement}
 use Rattle.num.proofs.load_be.Tie as tie
 

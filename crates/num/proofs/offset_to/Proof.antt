@@ -1,5 +1,5 @@
-use Rattle.num.proofs.Calls.{asks}
-use Rattle.num.proofs.Numbers.{difference}
+use Rattle.manual.proofs.Calls.{asks}
+use Rattle.manual.proofs.Numbers.{difference}
 use native.Mathlib.Omega.{arith}
 use Rattle.num.proofs.offset_to.Statement.{statement}
 use Rattle.num.proofs.offset_to.Tie as tie

@@ -1,7 +1,7 @@
 use native.Mathlib.Nat.{lt-of-lt-of-le}
 use lib.Dec.{lit≤}
-use Rattle.num.specs.Number.{signExtend}
-use Rattle.num.proofs.Numbers.{roomy}
+use Rattle.manual.specs.Number.{signExtend}
+use Rattle.manual.proofs.Numbers.{roomy}
 use borrow.Author.Needs.{needs}
 use Rattle.num.proofs.sign_extend.Statement.{statement}
 use Rattle.num.proofs.sign_extend.Tie as tie

@@ -7,8 +7,8 @@ use native.Mathlib.Omega.{arith}
 use native.Mathlib.Nat.{sub-self, div-one}
 use lib.ListN.{length, take, length-set}
 use denote.Ref.{now}
-use Rattle.num.specs.Number.{toBe}
-use Rattle.num.proofs.Numbers.{store-none, store-more, store-left, store-all}
+use Rattle.manual.specs.Number.{toBe}
+use Rattle.manual.proofs.Numbers.{store-none, store-more, store-left, store-all}
 use Rattle.num.proofs.store_be.Statement.{statement}
 use Rattle.num.proofs.store_be.Tie as tie
 

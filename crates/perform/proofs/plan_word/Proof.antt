@@ -1,4 +1,4 @@
-use Rattle.num.proofs.Calls.{asks}
+use Rattle.manual.proofs.Calls.{asks}
 use Rattle.manual.specs.Act.{plannedOf}
 use borrow.Author.Needs.{needs}
 use Rattle.perform.proofs.plan_word.Statement.{statement}

@@ -2,7 +2,7 @@ use mathlib.Core.Path.{sym}
 use native.Mathlib.Omega.{arith}
 use borrow.Author.Needs.{needs}
 use denote.Ref.{now}
-use Rattle.store.proofs.Stores.{put-out}
+use Rattle.manual.proofs.Stores.{put-out}
 use Rattle.tables.proofs.Laws.{copied}
 use Rattle.pieces.proofs.put_at.Statement.{statement}
 use Rattle.pieces.proofs.put_at.Tie as tie

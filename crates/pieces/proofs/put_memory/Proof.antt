@@ -4,7 +4,7 @@ use mathlib.Core.Path.{_≡_, refl, sym, _∙_}
 use native.Mathlib.Nat.{sub-zero}
 use borrow.Author.Needs.{needs}
 use lib.ListN.{length}
-use Rattle.num.proofs.Calls.{asks}
+use Rattle.manual.proofs.Calls.{asks}
 use Rattle.tables.specs.Tables.{entries, pieceEnd, withPiece, memoryIn, memoryEnd}
 use Rattle.tables.proofs.Laws.{entry-more, entry-none}
 use Rattle.pieces.proofs.put_memory.Statement.{statement}

@@ -1,4 +1,4 @@
-use Rattle.num.proofs.Calls.{asks}
+use Rattle.manual.proofs.Calls.{asks}
 use borrow.Author.Needs.{needs}
 use Rattle.tables.specs.Tables.{pieceEnd, withPiece}
 use Rattle.pieces.proofs.put_piece.Statement.{statement}

@@ -1,6 +1,6 @@
 use native.Mathlib.Omega.{arith}
 use borrow.Author.Needs.{needs}
-use Rattle.num.proofs.Calls.{asks}
+use Rattle.manual.proofs.Calls.{asks}
 use Rattle.tables.proofs.Laws.{counts}
 use Rattle.pieces.proofs.size_in.Statement.{statement}
 use Rattle.pieces.proofs.size_in.Tie as tie

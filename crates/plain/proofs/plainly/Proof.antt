@@ -1,9 +1,9 @@
 use mathlib.Core.Path.{refl}
-use Rattle.num.proofs.Calls.{asks}
+use Rattle.manual.proofs.Calls.{asks}
 use borrow.Author.Needs.{needs}
-use Rattle.cap.specs.Cap.{registerOpen}
-use Rattle.isa.specs.Word.{field25}
-use Rattle.isa.specs.Decode.{lookup, majors, decodeWord}
+use Rattle.manual.specs.Cap.{registerOpen}
+use Rattle.manual.specs.Word.{field25}
+use Rattle.manual.specs.Decode.{lookup, majors, decodeWord}
 use Rattle.manual.specs.Plan.{planOf}
 use Rattle.special.proofs.Laws.{immediate-means, lui-means}
 use Rattle.plain.proofs.Laws.{load-means, store-means, branch-means}

@@ -1,5 +1,5 @@
-use Rattle.num.proofs.Calls.{asks}
-use Rattle.checks.specs.Checks.{settle}
+use Rattle.manual.proofs.Calls.{asks}
+use Rattle.manual.specs.Checks.{settle}
 use Rattle.manual.specs.Plan.{planOf}
 use borrow.Author.Needs.{needs}
 use Rattle.plan.proofs.plan.Statement.{statement}

@@ -1,8 +1,8 @@
 use mathlib.Core.Path.{refl}
-use Rattle.num.proofs.Calls.{asks}
+use Rattle.manual.proofs.Calls.{asks}
 use borrow.Author.Needs.{needs}
 use borrow.Author.Tests.{lt-leb}
-use Rattle.asked.specs.Exported.{runInto}
+use Rattle.pages.specs.Exported.{runInto}
 use Rattle.pommerzil.proofs.Laws.{ran}
 use Rattle.pommerzil.proofs.pommerzil_run.Statement.{statement}
 use Rattle.pommerzil.proofs.pommerzil_run.Tie as tie

@@ -1,4 +1,4 @@
-use Rattle.num.proofs.Calls.{asks}
+use Rattle.manual.proofs.Calls.{asks}
 use borrow.Author.Needs.{needs}
 use Rattle.pommerzil.proofs.Laws.{told}
 use Rattle.pommerzil.proofs.pommerzil_write.Statement.{statement}

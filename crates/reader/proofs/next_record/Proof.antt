@@ -42,10 +42,10 @@ use denote.Triple.Table.{entered, cited}
 use denote.Triple.Walked.{says, Stays, stay-none, walkOf, goes-none, Walks, ends-at, walked, walk-meets}
 use denote.Exit.{yes}
 use denote.Triple.Clauses.{ensured, lasts}
-use Rattle.record.specs.Record.{headAt}
-use Rattle.record.specs.declared.Head.{Head}
-use Rattle.record.proofs.Head as S
-use Rattle.record.proofs.Head.Laws as S′
+use Rattle.pages.specs.Record.{headAt}
+use Rattle.pages.specs.declared.Head.{Head}
+use Rattle.pages.proofs.Head as S
+use Rattle.pages.proofs.Head.Laws as S′
 use Rattle.record.proofs.head_at as head
 use Rattle.record.proofs.head_at.Symbol as head-def
 use Rattle.record.proofs.head_at.Symbol.{name as #record·head-at}

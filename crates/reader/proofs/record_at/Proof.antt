@@ -37,10 +37,10 @@ use denote.Triple.Table.{entered, cited}
 use denote.Triple.Walked.{says, Stays, stay-none, stay-none-slice, walkOf, goes-none, goes-none-slice, Walks, ends-at, walked, walk-meets}
 use denote.Exit.{yes}
 use denote.Triple.Clauses.{ensured, lasts}
-use Rattle.record.specs.Record.{headAt}
-use Rattle.record.specs.declared.Head.{Head}
-use Rattle.record.proofs.Head as S
-use Rattle.record.proofs.Head.Laws as S′
+use Rattle.pages.specs.Record.{headAt}
+use Rattle.pages.specs.declared.Head.{Head}
+use Rattle.pages.proofs.Head as S
+use Rattle.pages.proofs.Head.Laws as S′
 use Rattle.reader.specs.declared.Reader.{Reader}
 use Rattle.reader.proofs.Reader as T
 use Rattle.reader.proofs.Reader.Laws as T′

@@ -1,9 +1,9 @@
 use mathlib.Core.Path.{refl}
 use borrow.Author.Needs.{needs}
-use Rattle.num.proofs.Calls.{asks}
-use Rattle.isa.specs.declared.Field.{Field}
-use Rattle.isa.specs.Word.{below}
-use Rattle.isa.specs.Decode.{lookup, numbers, unused, capabilityWord}
+use Rattle.manual.proofs.Calls.{asks}
+use Rattle.manual.specs.declared.Field.{Field}
+use Rattle.manual.specs.Word.{below}
+use Rattle.manual.specs.Decode.{lookup, numbers, unused, capabilityWord}
 use Rattle.reading.proofs.Laws.{get-leads}
 use Rattle.reading.proofs.read.Statement.{statement}
 use Rattle.reading.proofs.read.Tie as tie

@@ -1,7 +1,7 @@
-use Rattle.num.proofs.Calls.{asks}
+use Rattle.manual.proofs.Calls.{asks}
 use borrow.Author.Tests.{lt-ltb, le-leb, lt-leb}
-use Rattle.record.specs.Record.{headAt}
-use Rattle.record.proofs.Laws.{empty, short, whole}
+use Rattle.pages.specs.Record.{headAt}
+use Rattle.pages.proofs.Heads.{empty, short, whole}
 use borrow.Author.Needs.{needs}
 use Rattle.record.proofs.head_at.Statement.{statement}
 use Rattle.record.proofs.head_at.Tie as tie

@@ -4,9 +4,9 @@ use mathlib.Core.List.{List}
 use native.Mathlib.Omega.{arith}
 use borrow.Author.Needs.{needs}
 use lib.ListN.{length, getD}
-use Rattle.num.proofs.Calls.{asks}
-use Rattle.cap.specs.declared.Cap.{Cap}
-use Rattle.narrow.specs.Narrow.{null, setOffset}
+use Rattle.manual.proofs.Calls.{asks}
+use Rattle.manual.specs.declared.Cap.{Cap}
+use Rattle.manual.specs.Narrow.{null, setOffset}
 use Rattle.way.specs.Way.{waitingAt}
 use Rattle.slide.specs.Slide.{Slides}
 use Rattle.slide.proofs.Slides.{Tells, told, slid-sets, slid-jumps, slid-rests, stays, slot-is, seen, untouched}

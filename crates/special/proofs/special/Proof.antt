@@ -1,8 +1,8 @@
 use mathlib.Core.Path.{refl}
-use Rattle.num.proofs.Calls.{asks}
+use Rattle.manual.proofs.Calls.{asks}
 use borrow.Author.Needs.{needs}
-use Rattle.isa.specs.Word.{field10}
-use Rattle.isa.specs.Decode.{lookup, operations, specialWord}
+use Rattle.manual.specs.Word.{field10}
+use Rattle.manual.specs.Decode.{lookup, operations, specialWord}
 use Rattle.special.proofs.Laws.{nop-means, op-means}
 use Rattle.special.proofs.special.Statement.{statement}
 use Rattle.special.proofs.special.Tie as tie

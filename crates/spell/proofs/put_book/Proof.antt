@@ -1,12 +1,12 @@
-use Rattle.num.proofs.Calls.{asks}
+use Rattle.manual.proofs.Calls.{asks}
 use mathlib.Core.Path.{_≡_, sym, _∙_}
 use mathlib.Core.Bool.{true}
 use borrow.Author.Needs.{needs}
 use borrow.Author.Tests.{not-true, not-false}
 use denote.Ref.{now}
 use lib.ListN.{length}
-use Rattle.accept.specs.Accept.{sizesFit}
-use Rattle.spell.proofs.Books.{no-book, no-room, spelled}
+use Rattle.manual.specs.Accept.{sizesFit}
+use Rattle.pages.proofs.Books.{no-book, no-room, spelled}
 use Rattle.spell.proofs.put_book.Statement.{statement}
 use Rattle.spell.proofs.put_book.Tie as tie
 

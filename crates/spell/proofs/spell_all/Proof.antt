@@ -1,9 +1,9 @@
-use Rattle.num.proofs.Calls.{asks}
+use Rattle.manual.proofs.Calls.{asks}
 use Prim.Native.Nat.{_+_, _≤_}
 use native.Mathlib.Omega.{arith}
 use denote.Ref.{now}
 use lib.ListN.{length}
-use Rattle.spell.proofs.Books.{pcc-end, generals-end, lines-there, book-runs}
+use Rattle.pages.proofs.Books.{pcc-end, generals-end, lines-there, book-runs}
 use Rattle.spell.proofs.spell_all.Statement.{statement}
 use Rattle.spell.proofs.spell_all.Tie as tie
 

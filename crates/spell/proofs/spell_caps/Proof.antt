@@ -2,17 +2,17 @@ use Prim.Native.Nat.{ℕ, _+_, _-_, _≤_}
 use mathlib.Core.Path.{ap}
 use mathlib.Core.List.{List}
 use native.Mathlib.Omega.{arith}
-use Rattle.num.proofs.Calls.{asks}
+use Rattle.manual.proofs.Calls.{asks}
 use borrow.Author.Needs.{needs}
 use denote.Ref.{now}
 use lib.ListN.{getD}
-use Rattle.cap.specs.declared.Cap.{Cap}
-use Rattle.narrow.specs.Narrow.{null}
-use Rattle.naming.specs.Naming.{capPiece}
-use Rattle.naming.specs.Run.{pieces, Runs}
-use Rattle.naming.proofs.Pieces.{cap-most}
-use Rattle.naming.proofs.Runs.{run-begins, run-next, run-all, run-ends}
-use Rattle.spell.specs.Spell.{capPieces}
+use Rattle.manual.specs.declared.Cap.{Cap}
+use Rattle.manual.specs.Narrow.{null}
+use Rattle.pages.specs.Naming.{capPiece}
+use Rattle.pages.specs.Runs.{pieces, Runs}
+use Rattle.pages.proofs.Pieces.{cap-most}
+use Rattle.pages.proofs.RunLaws.{run-begins, run-next, run-all, run-ends}
+use Rattle.pages.specs.Spell.{capPieces}
 use Rattle.spell.proofs.spell_caps.Statement.{statement}
 use Rattle.spell.proofs.spell_caps.Tie as tie
 

@@ -2,15 +2,15 @@ use Prim.Native.Nat.{ℕ, _+_, _-_, _≤_}
 use mathlib.Core.Path.{ap}
 use mathlib.Core.List.{List}
 use native.Mathlib.Omega.{arith}
-use Rattle.num.proofs.Calls.{asks}
+use Rattle.manual.proofs.Calls.{asks}
 use borrow.Author.Needs.{needs}
 use denote.Ref.{now}
 use lib.ListN.{getD}
-use Rattle.naming.specs.Naming.{generalPiece}
-use Rattle.naming.specs.Run.{pieces, Runs}
-use Rattle.naming.proofs.Pieces.{general-most}
-use Rattle.naming.proofs.Runs.{run-begins, run-next, run-all, run-ends}
-use Rattle.spell.specs.Spell.{generalPieces}
+use Rattle.pages.specs.Naming.{generalPiece}
+use Rattle.pages.specs.Runs.{pieces, Runs}
+use Rattle.pages.proofs.Pieces.{general-most}
+use Rattle.pages.proofs.RunLaws.{run-begins, run-next, run-all, run-ends}
+use Rattle.pages.specs.Spell.{generalPieces}
 use Rattle.spell.proofs.spell_generals.Statement.{statement}
 use Rattle.spell.proofs.spell_generals.Tie as tie
 

@@ -1,14 +1,14 @@
 use Prim.Native.Nat.{_+_, _-_, _≤_}
 use mathlib.Core.Path.{ap}
 use native.Mathlib.Omega.{arith}
-use Rattle.num.proofs.Calls.{asks}
+use Rattle.manual.proofs.Calls.{asks}
 use borrow.Author.Needs.{needs}
 use denote.Ref.{now}
 use lib.ListN.{length}
-use Rattle.naming.specs.Run.{pieces, Runs}
-use Rattle.naming.proofs.Runs.{run-begins, run-next, run-all, run-ends}
-use Rattle.spell.specs.Spell.{linePieces, linePiece}
-use Rattle.spell.proofs.Books.{line-most, line-told}
+use Rattle.pages.specs.Runs.{pieces, Runs}
+use Rattle.pages.proofs.RunLaws.{run-begins, run-next, run-all, run-ends}
+use Rattle.pages.specs.Spell.{linePieces, linePiece}
+use Rattle.pages.proofs.Books.{line-most, line-told}
 use Rattle.spell.proofs.spell_lines.Statement.{statement}
 use Rattle.spell.proofs.spell_lines.Tie as tie
 

@@ -1,6 +1,6 @@
-use Rattle.num.proofs.Calls.{asks}
+use Rattle.manual.proofs.Calls.{asks}
 use borrow.Author.Tests.{not-true, not-false}
-use Rattle.accept.specs.Accept.{verdictOf}
+use Rattle.manual.specs.Accept.{verdictOf}
 use Rattle.start.proofs.accept.Statement.{statement}
 use Rattle.start.proofs.accept.Tie as tie
 

@@ -6,9 +6,9 @@ use native.Mathlib.Omega.{arith}
 use borrow.Author.Needs.{needs}
 use denote.Ref.{now}
 use lib.ListN.{length}
-use Rattle.num.proofs.Calls.{asks}
-use Rattle.accept.specs.Accept.{every, lineFits}
-use Rattle.accept.proofs.Scans.{begins, fails, passes, ends}
+use Rattle.manual.proofs.Calls.{asks}
+use Rattle.manual.specs.Accept.{every, lineFits}
+use Rattle.manual.proofs.Scans.{begins, fails, passes, ends}
 use Rattle.start.proofs.lines_fit.Statement.{statement}
 use Rattle.start.proofs.lines_fit.Tie as tie
 

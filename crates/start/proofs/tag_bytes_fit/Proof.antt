@@ -8,8 +8,8 @@ use denote.Ref.{now}
 use lib.Dec.{ltb}
 use lib.ListN.{length, getD}
 use borrow.Author.Tests.{lt-ltb, le-ltb}
-use Rattle.accept.specs.Accept.{every}
-use Rattle.accept.proofs.Scans.{begins, fails, passes, ends}
+use Rattle.manual.specs.Accept.{every}
+use Rattle.manual.proofs.Scans.{begins, fails, passes, ends}
 use Rattle.start.proofs.tag_bytes_fit.Statement.{statement}
 use Rattle.start.proofs.tag_bytes_fit.Tie as tie
 

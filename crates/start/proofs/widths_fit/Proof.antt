@@ -5,11 +5,11 @@ use mathlib.Core.List.{List}
 use native.Mathlib.Omega.{arith}
 use borrow.Author.Needs.{needs}
 use lib.ListN.{getD}
-use Rattle.num.proofs.Calls.{asks}
-use Rattle.cap.specs.declared.Cap.{Cap}
-use Rattle.narrow.specs.Narrow.{null}
-use Rattle.accept.specs.Accept.{every, widthFits}
-use Rattle.accept.proofs.Scans.{begins, fails, passes, ends}
+use Rattle.manual.proofs.Calls.{asks}
+use Rattle.manual.specs.declared.Cap.{Cap}
+use Rattle.manual.specs.Narrow.{null}
+use Rattle.manual.specs.Accept.{every, widthFits}
+use Rattle.manual.proofs.Scans.{begins, fails, passes, ends}
 use Rattle.start.proofs.widths_fit.Statement.{statement}
 use Rattle.start.proofs.widths_fit.Tie as tie
 

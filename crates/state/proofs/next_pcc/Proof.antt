@@ -1,4 +1,4 @@
-use Rattle.num.proofs.Calls.{asks}
+use Rattle.manual.proofs.Calls.{asks}
 use borrow.Author.Needs.{needs}
 use Rattle.state.proofs.next_pcc.Statement.{statement}
 use Rattle.state.proofs.next_pcc.Tie as tie

@@ -5,11 +5,11 @@ use native.Mathlib.Omega.{arith}
 use borrow.Author.Needs.{needs}
 use lib.ListN.{length}
 use denote.Ref.{now}
-use Rattle.store.specs.Store.{bit}
-use Rattle.num.proofs.Calls.{asks}
-use Rattle.state.specs.Steps.{Result, turnAt, ramAt, tagsAt, runFrom}
+use Rattle.manual.specs.Store.{bit}
+use Rattle.manual.proofs.Calls.{asks}
+use Rattle.manual.specs.Steps.{Result, turnAt, ramAt, tagsAt, runFrom}
 use Rattle.slide.specs.Slide.{holding}
-use Rattle.state.proofs.Runs.{turn-is, ram-is, tags-is, on, off, done, first}
+use Rattle.manual.proofs.Runs.{turn-is, ram-is, tags-is, on, off, done, first}
 use Rattle.glide.proofs.Glides.{along}
 use Rattle.steps.proofs.go.Statement.{statement}
 use Rattle.steps.proofs.go.Tie as tie

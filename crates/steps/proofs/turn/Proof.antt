@@ -1,4 +1,4 @@
-use Rattle.num.proofs.Calls.{asks}
+use Rattle.manual.proofs.Calls.{asks}
 use borrow.Author.Needs.{needs}
 use Rattle.steps.proofs.turn.Statement.{statement}
 use Rattle.steps.proofs.turn.Tie as tie

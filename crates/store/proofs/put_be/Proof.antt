@@ -1,13 +1,13 @@
-use Rattle.num.proofs.Calls.{asks}
+use Rattle.manual.proofs.Calls.{asks}
 use mathlib.Core.Path.{sym, _∙_, ap}
 use Prim.Native.Nat.{_+_}
 use denote.Ref.{now}
 use native.Mathlib.Omega.{arith}
 use borrow.Author.Tests.{leb-true, leb-false}
 use lib.ListN.{length}
-use Rattle.num.specs.Number.{toBe}
-use Rattle.num.proofs.Numbers.{length-toBe}
-use Rattle.store.proofs.Stores.{put-part, put-out, length-part}
+use Rattle.manual.specs.Number.{toBe}
+use Rattle.manual.proofs.Numbers.{length-toBe}
+use Rattle.manual.proofs.Stores.{put-part, put-out, length-part}
 use borrow.Author.Needs.{needs}
 use Rattle.store.proofs.put_be.Statement.{statement}
 use Rattle.store.proofs.put_be.Tie as tie

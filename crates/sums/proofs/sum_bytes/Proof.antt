@@ -5,7 +5,7 @@ use native.Mathlib.Omega.{arith}
 use borrow.Author.Needs.{needs}
 use lib.ListN.{drop}
 use denote.Ref.{now}
-use Rattle.num.proofs.Calls.{asks}
+use Rattle.manual.proofs.Calls.{asks}
 use Rattle.sums.specs.Sums.{sumWith, checksum}
 use Rattle.sums.proofs.Sums.{sum-byte, sum-end}
 use Rattle.sums.proofs.sum_bytes.Statement.{statement}

@@ -1,5 +1,5 @@
 use borrow.Author.Needs.{needs}
-use Rattle.num.proofs.Calls.{asks}
+use Rattle.manual.proofs.Calls.{asks}
 use Rattle.sums.specs.Sums.{capBytes}
 use Rattle.sums.proofs.Sums.{sum-more}
 use Rattle.sums.proofs.sum_cap.Statement.{statement}

@@ -5,8 +5,8 @@ use mathlib.Core.List.{flatMap}
 use native.Mathlib.Omega.{arith}
 use borrow.Author.Needs.{needs}
 use lib.ListN.{drop}
-use Rattle.num.proofs.Calls.{asks}
-use Rattle.narrow.specs.Narrow.{null}
+use Rattle.manual.proofs.Calls.{asks}
+use Rattle.manual.specs.Narrow.{null}
 use Rattle.sums.specs.Sums.{sumWith, capBytes}
 use Rattle.sums.proofs.Sums.{sum-next, sum-last}
 use Rattle.sums.proofs.sum_caps.Statement.{statement}

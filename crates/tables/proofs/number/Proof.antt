@@ -1,7 +1,7 @@
 use Prim.Native.Nat.{_%_, _^_}
 use mathlib.Core.Path.{_∙_, ap}
-use Rattle.num.proofs.Calls.{asks}
-use Rattle.num.specs.Number.{be}
+use Rattle.manual.proofs.Calls.{asks}
+use Rattle.manual.specs.Number.{be}
 use Rattle.tables.proofs.number.Statement.{statement}
 use Rattle.tables.proofs.number.Tie as tie
 

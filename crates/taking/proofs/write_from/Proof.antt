@@ -1,7 +1,7 @@
 use mathlib.Core.Path.{refl, sym, _∙_}
-use Rattle.num.proofs.Calls.{asks}
+use Rattle.manual.proofs.Calls.{asks}
 use borrow.Author.Needs.{needs}
-use Rattle.taking.specs.Taking.{writeFrom}
+use Rattle.pages.specs.Taking.{writeFrom}
 use Rattle.taking.proofs.write_from.Statement.{statement}
 use Rattle.taking.proofs.write_from.Tie as tie
 

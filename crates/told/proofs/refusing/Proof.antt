@@ -1,4 +1,4 @@
-use Rattle.num.proofs.Calls.{asks}
+use Rattle.manual.proofs.Calls.{asks}
 use Rattle.told.proofs.refusing.Statement.{statement}
 use Rattle.told.proofs.refusing.Tie as tie
 

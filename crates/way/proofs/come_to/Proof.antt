@@ -1,4 +1,4 @@
-use Rattle.num.proofs.Calls.{asks}
+use Rattle.manual.proofs.Calls.{asks}
 use Rattle.way.proofs.come_to.Statement.{statement}
 use Rattle.way.proofs.come_to.Tie as tie
 

@@ -1,4 +1,4 @@
-use Rattle.num.proofs.Calls.{asks}
+use Rattle.manual.proofs.Calls.{asks}
 use borrow.Author.Tests.{eq-eqb, ne-eqb}
 use Rattle.way.specs.Way.{lightWord}
 use Rattle.way.proofs.is_light.Statement.{statement}

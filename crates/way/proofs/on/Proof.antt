@@ -1,4 +1,4 @@
-use Rattle.num.proofs.Calls.{asks}
+use Rattle.manual.proofs.Calls.{asks}
 use borrow.Author.Needs.{needs}
 use Rattle.way.proofs.on.Statement.{statement}
 use Rattle.way.proofs.on.Tie as tie

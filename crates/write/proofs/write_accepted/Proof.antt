@@ -1,10 +1,10 @@
-use Rattle.num.proofs.Calls.{asks}
+use Rattle.manual.proofs.Calls.{asks}
 use mathlib.Core.Path.{_≡_, ap}
 use mathlib.Core.Bool.{true}
 use borrow.Author.Needs.{needs}
 use borrow.Author.Tests.{not-true, not-false}
 use denote.Ref.{now}
-use Rattle.write.specs.Write.{Result, rests}
+use Rattle.pages.specs.Write.{Result, rests}
 use Rattle.write.proofs.Books.{waits, no-room, written}
 use Rattle.write.proofs.write_accepted.Statement.{statement}
 use Rattle.write.proofs.write_accepted.Tie as tie

@@ -1,8 +1,8 @@
-use Rattle.num.proofs.Calls.{asks}
+use Rattle.manual.proofs.Calls.{asks}
 use mathlib.Core.Path.{refl, sym, _∙_}
 use borrow.Author.Needs.{needs}
-use Rattle.write.specs.Write.{writeBook}
-use Rattle.accept.proofs.Accepted.{sizes-fit}
+use Rattle.pages.specs.Write.{writeBook}
+use Rattle.manual.proofs.Accepted.{sizes-fit}
 use Rattle.write.proofs.write_book.Statement.{statement}
 use Rattle.write.proofs.write_book.Tie as tie
 

@@ -1,3 +1,0 @@
-mod Worked
-pub mod Scans
-pub mod Accepted

@@ -1,2 +1,0 @@
-pub mod Access
-pub mod Sum

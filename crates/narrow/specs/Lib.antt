@@ -1,2 +1,0 @@
-pub mod Narrow
-pub mod Claims

@@ -1,0 +1,10 @@
+pub mod Books
+pub mod Enters
+pub mod Entries
+pub mod Fields
+pub mod Heads
+pub mod Pieces
+pub mod Registers
+pub mod RunLaws
+pub mod Walks
+pub mod Worked

@@ -1,0 +1,17 @@
+pub mod Record
+pub mod Fields
+pub mod Entry
+pub mod Book
+pub mod Entering
+pub mod Enter
+pub mod Compose
+pub mod Runs
+pub mod Naming
+pub mod Spell
+pub mod Write
+pub mod Registers
+pub mod Handing
+pub mod Taking
+pub mod Answer
+pub mod Bench
+pub mod Exported

@@ -1,2 +1,0 @@
-pub mod Claims
-pub mod Taking
