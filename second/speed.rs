@@ -1,105 +1,51 @@
 //! Times a run through the C functions of the crate `pommerzil` beside `second::run`: the same programs, one after the other.
 
+use hosted::{linked_read, linked_run, Lent, REGISTERS_BYTES};
 use second::{run, write_book, Cap, Machine};
 use std::hint::black_box;
 use std::time::Instant;
 
-extern "C" {
-    fn pommerzil_run(
-        book: *const u8,
-        book_bytes: usize,
-        flash: *const u8,
-        flash_bytes: usize,
-        ram: *mut u8,
-        ram_bytes: usize,
-        tags: *mut u8,
-        tags_bytes: usize,
-        budget: u32,
-        answer: *mut u64,
-        answer_numbers: usize,
-    ) -> u8;
-    fn pommerzil_read(
-        book: *const u8,
-        book_bytes: usize,
-        flash_bytes: usize,
-        ram: *mut u8,
-        ram_bytes: usize,
-        tags: *mut u8,
-        tags_bytes: usize,
-        registers: *mut u8,
-        registers_bytes: usize,
-    ) -> u8;
-}
-
 const BUDGET: u32 = 50_000_000;
 const TRIES: usize = 3;
-const REGISTERS_BYTES: usize = 1627;
 
-/// A flash with a program in it, a RAM and its tags, all zero, and the book of the machine that starts.
-struct Memory {
+/// The book of the machine that starts, a flash with a program in it, and a RAM and its tags, all zero.
+struct Start {
     book: Vec<u8>,
     flash: Vec<u8>,
-    ram: Vec<u8>,
-    tags: Vec<u8>,
+    lent: Lent,
 }
 
-impl Memory {
-    fn new(program: &[u32], ram: usize) -> Memory {
+impl Start {
+    fn new(program: &[u32], ram: usize) -> Start {
         let mut flash: Vec<u8> = program.iter().flat_map(|word| word.to_be_bytes()).collect();
         flash.resize(flash.len().next_multiple_of(32), 0);
         let mut book = vec![0; REGISTERS_BYTES];
         let bytes =
             write_book(&starting(), &[], &[], &mut book).expect("a machine that a book can say");
         book.truncate(bytes);
-        Memory { book, flash, ram: vec![0; ram], tags: vec![0; ram / 32] }
+        Start { book, flash, lent: Lent { ram: vec![0; ram], tags: vec![0; ram / 32] } }
     }
 
     /// The steps that were made.
     fn run_proved(&mut self, budget: u32) -> u64 {
-        let (book, flash, ram, tags) = (&self.book, &self.flash, &mut self.ram, &mut self.tags);
         let mut answer = [0; 5];
-        // Each part is as long as is said, and none is touched while it runs; so it is below.
-        let stop = unsafe {
-            pommerzil_run(
-                book.as_ptr(),
-                book.len(),
-                flash.as_ptr(),
-                flash.len(),
-                ram.as_mut_ptr(),
-                ram.len(),
-                tags.as_mut_ptr(),
-                tags.len(),
-                budget,
-                answer.as_mut_ptr(),
-                answer.len(),
-            )
-        };
+        let stop = linked_run(&self.book, &self.flash, &mut self.lent, budget, &mut answer);
         assert_eq!(stop, 0, "the whole budget is spent");
         answer[4]
     }
 
-    fn read_proved(&mut self) -> u8 {
-        let (book, ram, tags) = (&self.book, &mut self.ram, &mut self.tags);
+    fn read_proved(&mut self) {
         let mut registers = [0; REGISTERS_BYTES];
-        unsafe {
-            pommerzil_read(
-                book.as_ptr(),
-                book.len(),
-                self.flash.len(),
-                ram.as_mut_ptr(),
-                ram.len(),
-                tags.as_mut_ptr(),
-                tags.len(),
-                registers.as_mut_ptr(),
-                registers.len(),
-            )
-        }
+        let number = linked_read(&self.book, self.flash.len(), &mut self.lent, &mut registers);
+        assert_eq!(number, 0, "the book is accepted");
+        black_box(registers);
     }
 
     fn run_second(&mut self, machine: &Machine, budget: u32) -> u64 {
-        self.ram.fill(0);
-        self.tags.fill(0);
-        u64::from(run(machine, &self.flash, &mut self.ram, &mut self.tags, budget).steps)
+        let (ram, tags) = (&mut self.lent.ram, &mut self.lent.tags);
+        ram.fill(0);
+        tags.fill(0);
+        u64::from(run(machine, &self.flash, ram, tags, budget).steps)
     }
 }
 
@@ -175,10 +121,10 @@ fn best(mut once: impl FnMut()) -> f64 {
 
 fn compare(name: &str, program: &[u32]) {
     let machine = starting();
-    let (mut one, mut other) = (Memory::new(program, 65536), Memory::new(program, 65536));
+    let (mut one, mut other) = (Start::new(program, 65536), Start::new(program, 65536));
     let proved = best(|| assert_eq!(one.run_proved(BUDGET), u64::from(BUDGET)));
     let second = best(|| assert_eq!(other.run_second(&machine, BUDGET), u64::from(BUDGET)));
-    assert!(one.ram == other.ram && one.tags == other.tags, "{name}: the memories differ");
+    assert!(one.lent == other.lent, "{name}: the memories differ");
     let rate = |seconds: f64| f64::from(BUDGET) / seconds / 1e6;
     println!(
         "{name}: pommerzil_run {:.1}, second::run {:.1} million steps a second",
@@ -189,18 +135,14 @@ fn compare(name: &str, program: &[u32]) {
 
 /// What a call costs that makes no step: the book read, and the start judged; and what reading the book and handing it out costs.
 fn before_the_first_step(ram: usize) {
-    let runs = 100_000;
-    let mut memory = Memory::new(&plain_loop(), ram);
-    let mut each = |once: &mut dyn FnMut(&mut Memory)| {
-        let seconds = best(|| (0..runs).for_each(|_| once(&mut memory)));
-        seconds / f64::from(runs) * 1e6
+    let calls = 100_000;
+    let mut start = Start::new(&plain_loop(), ram);
+    let mut each = |once: &mut dyn FnMut(&mut Start)| {
+        let seconds = best(|| (0..calls).for_each(|_| once(&mut start)));
+        seconds / f64::from(calls) * 1e6
     };
-    let run = each(&mut |memory| {
-        black_box(memory.run_proved(0));
-    });
-    let read = each(&mut |memory| {
-        black_box(memory.read_proved());
-    });
+    let run = each(&mut |start| assert_eq!(start.run_proved(0), 0));
+    let read = each(&mut |start| start.read_proved());
     println!("before the first step, R = {ram}: {run:.2} microseconds; a book read and handed out: {read:.2}");
 }
 
