@@ -1,4 +1,6 @@
 // Three tests of a start, which books make too (01, "Stop numbers").
+#![tactic(auto)]
+
 ghost use Rattle.std.specs.Prelude.{◌≡◌, not, ◌&&◌};
 ghost use Rattle.manual.specs.Accept.{sizes_fit, top_fits, loaded_fits};
 

@@ -1,4 +1,6 @@
 // The test of an access through a capability: exact sums, then the address (01, "Access and fetch").
+#![tactic(auto)]
+
 ghost use Rattle.std.specs.Prelude.{◌≡◌, ℕ, ◌+◌, ◌-◌, ◌^◌, ◌≤◌, ◌<◌, eqb};
 ghost use Rattle.manual.specs.Number.{bytes_in};
 ghost use Rattle.manual.specs.Sum.{net, offset_of};

@@ -1,4 +1,6 @@
 // A start book read and, where it is accepted, run: what is told of it, with any memories, or with those of the bench.
+#![tactic(auto)]
+
 ghost use Rattle.std.specs.Prelude.{◌≡◌};
 ghost use Rattle.pages.specs.Answer.{book_run};
 ghost use Rattle.pages.specs.Bench.{bench_of};

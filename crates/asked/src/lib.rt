@@ -1,4 +1,6 @@
 // What the bench asks of a book and its RAM, and what is told of a run.
+#![tactic(auto)]
+
 ghost use Rattle.std.specs.Prelude.{◌≡◌};
 ghost use Rattle.pages.specs.Answer.{answer_of};
 ghost use Rattle.pages.specs.Bench.{bench_fits, bench_numbers};

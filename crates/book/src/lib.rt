@@ -1,4 +1,6 @@
 // A start book, walked by a reader from record to record: the first that is faulty decides (01, "The start book").
+#![tactic(auto)]
+
 ghost use Rattle.std.specs.Prelude.{◌≡◌};
 ghost use Rattle.pages.specs.Book.{kind_of, key_of, in_order, ordered_step, after_entry, step_at, check_book};
 

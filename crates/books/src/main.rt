@@ -2,6 +2,8 @@
 // (`second-cases 1 2700 OUT books`): of each case a length of 4 bytes and its body, laid out as second/src/generate/format.rs
 // says. A book to read gives REFUSAL MACHINE RAM TAGS; a book to write gives REFUSAL LENGTH OUT and, where one was written,
 // what reading exactly its bytes gives. All but REFUSAL and LENGTH are checksums, as second/src/generate/answers.rs says.
+#![tactic(auto)]
+
 ghost use Rattle.std.specs.Prelude.{◌≡◌, length};
 
 use libc::STDOUT_FILENO;

@@ -1,4 +1,6 @@
 // Branches: BEQ, BNE, CBTU and CBTS.
+#![tactic(auto)]
+
 ghost use Rattle.std.specs.Prelude.{◌≡◌, ◌+◌, leb};
 ghost use Rattle.manual.specs.Checks.{settle};
 ghost use Rattle.manual.specs.Branch.{wanted, bytes_off, branch_offset, branch_to, not_past, branch, branch_tag};

@@ -1,4 +1,6 @@
 // The permissions of a capability, and the registers they open (004, chapter 3).
+#![tactic(auto)]
+
 ghost use Rattle.std.specs.Prelude.{◌≡◌, ◌+◌, ◌^◌, ltb};
 ghost use Rattle.manual.specs.Cap.{permission_table, permitted, in_widths, access_bit, register_open};
 

@@ -1,4 +1,6 @@
 // Words of major opcode 18: the capability instructions.
+#![tactic(auto)]
+
 ghost use Rattle.std.specs.Prelude.{◌≡◌};
 ghost use Rattle.manual.specs.Decode.{decoded, kinds, numbers, unused, capability_word};
 

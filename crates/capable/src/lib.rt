@@ -1,5 +1,7 @@
 // Instructions that look at capability registers and write a register or the memory, carried out on the values that their words
 // name.
+#![tactic(auto)]
+
 ghost use Rattle.std.specs.Prelude.{◌≡◌};
 ghost use Rattle.manual.specs.Decode.{decode_word};
 ghost use Rattle.capable.specs.Capable.{Capably};

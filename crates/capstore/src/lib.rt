@@ -1,4 +1,6 @@
 // Capability stores: the line's 32 bytes and its tag.
+#![tactic(auto)]
+
 ghost use Rattle.std.specs.Prelude.{◌≡◌, length};
 ghost use Rattle.manual.specs.Place.{place_of};
 ghost use Rattle.manual.specs.Store.{answer_at, ram_after, tags_after};

@@ -1,4 +1,6 @@
 // Loads and stores of capabilities through a capability: CLC and CSC (004, chapter 4).
+#![tactic(auto)]
+
 ghost use Rattle.std.specs.Prelude.{◌≡◌, Bool, ◌||◌, not};
 ghost use Rattle.manual.specs.Cap.{permits, GLOBAL, STORE_LOCAL};
 ghost use Rattle.manual.specs.Checks.{settle};

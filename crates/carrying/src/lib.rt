@@ -1,4 +1,6 @@
 // CLC and CSC through a capability register, carried out on the values that their words name.
+#![tactic(auto)]
+
 ghost use Rattle.std.specs.Prelude.{◌≡◌};
 ghost use Rattle.carrying.specs.Carrying.{puts_line, held_where, line_at, line_stored, line_ram, line_tags, LoadsLine, StoresLine};
 

@@ -1,6 +1,8 @@
 // Runs the machines of a table. Standard input is a file of the second program's with runs alone: of each case a length
 // of 4 bytes and its body, laid out as second/src/generate/format.rs says. A case's line is STOP CAUSE REGISTER PLACE
 // STEPS MACHINE RAM TAGS, the last three checksums, as second/src/generate/answers.rs says.
+#![tactic(auto)]
+
 ghost use Rattle.std.specs.Prelude.{◌≡◌, length};
 
 use libc::STDOUT_FILENO;

@@ -1,4 +1,6 @@
 // Checks before an effect: made one after the other on values; the first that fails decides.
+#![tactic(auto)]
+
 ghost use Rattle.std.specs.Prelude.{◌≡◌, Bool, ◌&&◌, ◌||◌, not, ℕ, ◌+◌};
 ghost use Rattle.manual.specs.Cap.{permits, access_bit, register_open};
 ghost use Rattle.manual.specs.Checks.{Guards, ok, fail, finish, stop_number, lacking, TAG, SEAL};

@@ -1,4 +1,6 @@
 // CPtrCmp (004).
+#![tactic(auto)]
+
 ghost use Rattle.std.specs.Prelude.{◌≡◌};
 ghost use Rattle.manual.specs.Checks.{settle};
 ghost use Rattle.manual.specs.Compare.{same_bool, is_equal, is_less, is_less_signed, compares, c_ptr_cmp};

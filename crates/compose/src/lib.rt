@@ -1,4 +1,6 @@
 // The records of a start book as its writer spells them: whether there is one, and that of a line (01, "The start book").
+#![tactic(auto)]
+
 ghost use Rattle.std.specs.Prelude.{◌≡◌, Bool, ℕ, ◌+◌, length, leb};
 ghost use Rattle.manual.specs.Store.{put};
 ghost use Rattle.pages.specs.Compose.{record_of, line_body, zero_cap, zero_bytes};

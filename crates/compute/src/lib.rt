@@ -1,4 +1,6 @@
 // The arithmetic of the MIPS instructions, on 64 bits.
+#![tactic(auto)]
+
 ghost use Rattle.std.specs.Prelude.{◌≡◌};
 ghost use Rattle.manual.specs.Store.{bit};
 ghost use Rattle.manual.specs.Compute.{signed_less, compute_of};

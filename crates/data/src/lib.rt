@@ -1,4 +1,6 @@
 // Data loads and stores through a capability: where one lies, what it loads, what it leaves.
+#![tactic(auto)]
+
 ghost use Rattle.std.specs.Prelude.{◌≡◌};
 ghost use Rattle.manual.specs.Number.{bytes_in};
 ghost use Rattle.manual.specs.Access.{access_of};

@@ -1,4 +1,6 @@
 // The instruction that a word is (01, "Instructions").
+#![tactic(auto)]
+
 ghost use Rattle.std.specs.Prelude.{◌≡◌};
 ghost use Rattle.manual.specs.Decode.{decoded, operations, special_word, coded_size, load_word, store_word, decode_word};
 

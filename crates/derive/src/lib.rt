@@ -1,4 +1,6 @@
 // The instructions that derive a capability from another (004, chapter 4): every check in the page's order, then the effect.
+#![tactic(auto)]
+
 ghost use Rattle.std.specs.Prelude.{◌≡◌};
 ghost use Rattle.manual.specs.Checks.{settle};
 ghost use Rattle.manual.specs.Derive.{c_get_pcc, c_and_perm, c_clear_tag, c_inc_base, c_set_len, c_set_offset, c_inc_offset, c_from_ptr};

@@ -1,4 +1,6 @@
 // Instructions that derive a capability register from the one at 15..11, carried out on the values that their words name.
+#![tactic(auto)]
+
 ghost use Rattle.std.specs.Prelude.{◌≡◌};
 ghost use Rattle.deriving.specs.Deriving.{puts_where, puts_stored, Derives};
 
@@ -6,7 +8,7 @@ use manual::{Cap, Named, Offset, Stored};
 
 // What an instruction that looks at capability registers writes: a general or a capability register.
 // Other for any other, and where it would stop: then nothing was done.
-#[derive(Drop)]
+#[derive(Clone, Copy)]
 pub enum Capable {
     Sets(u8, u64),
     Puts(u8, Cap),

@@ -1,4 +1,6 @@
 // The one effect of an instruction whose checks have passed, carried out.
+#![tactic(auto)]
+
 ghost use Rattle.std.specs.Prelude.{◌≡◌};
 ghost use Rattle.manual.specs.Perform.{to_general, to_capability, loaded_turn, stored_turn, cap_turn, turn_of, ram_of, tags_of};
 

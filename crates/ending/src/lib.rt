@@ -1,4 +1,6 @@
 // How a run ends: the record of a stop, of a spent budget, of a refusal.
+#![tactic(auto)]
+
 ghost use Rattle.std.specs.Prelude.{◌≡◌};
 ghost use Rattle.manual.specs.Told.{refusal_number};
 ghost use Rattle.manual.specs.State.{cause_of, register_of, cause_after, stopped_at, ended_with};

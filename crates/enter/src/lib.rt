@@ -1,4 +1,6 @@
 // A start book read: judged whole before anything is written (01, "The start book").
+#![tactic(auto)]
+
 ghost use Rattle.std.specs.Prelude.{◌≡◌, length, replicate};
 ghost use Rattle.pages.specs.Enter.{judged, read_book};
 

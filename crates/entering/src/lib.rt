@@ -1,4 +1,6 @@
 // The records of a start book entered into a machine and its memories, one after the other (01, "The start book").
+#![tactic(auto)]
+
 ghost use Rattle.std.specs.Prelude.{◌≡◌, ◌≤◌, length};
 ghost use Rattle.pages.specs.Entering.{zero_machine, with_capability, with_general, machine_with, ram_with, tags_with, enter_book, bare, RegisterIsThere, LineIsThere};
 

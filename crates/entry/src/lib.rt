@@ -1,4 +1,6 @@
 // What a record of a start book says, or why it is refused.
+#![tactic(auto)]
+
 ghost use Rattle.std.specs.Prelude.{◌≡◌, ◌&&◌, leb};
 ghost use Rattle.pages.specs.Entry.{general_of, is_line, line_of, entry_of};
 

@@ -1,4 +1,6 @@
 // The word at PCC fetched, or why there is none (01, "Access and fetch").
+#![tactic(auto)]
+
 ghost use Rattle.std.specs.Prelude.{◌≡◌};
 ghost use Rattle.manual.specs.Fetch.{word_in, fetch_of, word_of, ahead_of};
 

@@ -1,4 +1,6 @@
 // A capability record of a start book: its fields, and why they are refused.
+#![tactic(auto)]
+
 ghost use Rattle.std.specs.Prelude.{◌≡◌, ◌&&◌, length, leb, ltb};
 ghost use Rattle.pages.specs.Fields.{cap_of, capability_of};
 

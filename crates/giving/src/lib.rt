@@ -1,4 +1,6 @@
 // Every register of a machine as bytes, for a reader outside.
+#![tactic(auto)]
+
 ghost use Rattle.std.specs.Prelude.{◌≡◌};
 ghost use Rattle.manual.specs.Store.{put};
 ghost use Rattle.pages.specs.Runs.{Runs};

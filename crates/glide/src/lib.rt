@@ -1,4 +1,6 @@
 // Steps made one after the other by a shorter way, as far as it goes: the whole way makes the others.
+#![tactic(auto)]
+
 ghost use Rattle.std.specs.Prelude.{◌≡◌, List, ℕ, ◌≤◌};
 ghost use Rattle.slide.specs.Slide.{Glides};
 ghost use Rattle.glide.specs.Glide.{CapablyBy};

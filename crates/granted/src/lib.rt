@@ -1,4 +1,6 @@
 // What a start book grants: whatever read_book accepts, run accepts; a book that gives no tagged capability gives nothing.
+#![tactic(auto)]
+
 ghost use Rattle.granted.specs.Granted.{ReadIsAccepted, NothingGranted, EmptyBook};
 
 pub fn claims()

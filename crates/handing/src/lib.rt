@@ -1,4 +1,6 @@
 // A book read for a reader outside: its registers handed out as bytes, its RAM and its tags.
+#![tactic(auto)]
+
 ghost use Rattle.std.specs.Prelude.{◌≡◌};
 ghost use Rattle.pages.specs.Handing.{read_into};
 

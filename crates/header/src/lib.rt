@@ -1,4 +1,6 @@
 // What include/pommerzil.h says beside each answer: which numbers are returned, how much room a book needs, and that what is handed out is taken.
+#![tactic(auto)]
+
 ghost use Rattle.header.specs.Claims.{HandedOutIsTaken};
 ghost use Rattle.header.specs.Header.{RunNumbers, ReadNumbers, WriteNumbers, RoomForEvery};
 

@@ -1,4 +1,6 @@
 // The signed fields of a word, each in 64 bits (01, "Instruction words").
+#![tactic(auto)]
+
 ghost use Rattle.std.specs.Prelude.{◌≡◌, ◌+◌, ◌*◌, ◌%◌, ◌^◌, ◌<◌};
 ghost use Rattle.manual.specs.Number.{extend_from};
 ghost use Rattle.manual.specs.Word.{extended, signed8, signed11, signed16};

@@ -1,4 +1,6 @@
 // The record of a register as the writer of a start book spells it (01, "The start book").
+#![tactic(auto)]
+
 ghost use Rattle.std.specs.Prelude.{◌≡◌};
 ghost use Rattle.manual.specs.Store.{put};
 ghost use Rattle.pages.specs.Compose.{record_of, cap_body, general_body};

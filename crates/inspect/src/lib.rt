@@ -1,4 +1,6 @@
 // The instructions that look at a capability and leave it alone (004, chapter 4).
+#![tactic(auto)]
+
 ghost use Rattle.std.specs.Prelude.{◌≡◌};
 ghost use Rattle.manual.specs.Checks.{settle};
 ghost use Rattle.manual.specs.Inspect.{CauseOpen, field_of, pointer_of, get, c_get_cause, c_set_cause, c_to_ptr, c_check_perm, c_check_type};

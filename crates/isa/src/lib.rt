@@ -1,4 +1,6 @@
 // Instruction words: the fields of one, and which count as branches and jumps (01, "Instruction words").
+#![tactic(auto)]
+
 ghost use Rattle.std.specs.Prelude.{◌≡◌};
 ghost use Rattle.manual.specs.Word.{field25, field20, field15, field10};
 ghost use Rattle.manual.specs.Decode.{if_zero, is_jump_word};

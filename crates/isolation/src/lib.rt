@@ -1,4 +1,6 @@
 // What code can come to, and that what it cannot come to has no influence on it.
+#![tactic(auto)]
+
 ghost use Rattle.isolation.specs.Claims.{Confined, SameReach};
 ghost use Rattle.isolation.specs.Worked.{WorkedPair};
 

@@ -1,4 +1,6 @@
 // Branches, jumps and the two instructions that only raise (004, chapter 4).
+#![tactic(auto)]
+
 ghost use Rattle.std.specs.Prelude.{◌≡◌};
 ghost use Rattle.manual.specs.Checks.{settle};
 ghost use Rattle.manual.specs.Jump.{c_jr, c_jalr, c_call, c_return};

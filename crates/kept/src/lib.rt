@@ -1,4 +1,6 @@
 // What the definitions promise of bytes, tags and capabilities in memory, and of a step that stores one and a step that loads it.
+#![tactic(auto)]
+
 ghost use Rattle.manual.specs.Claims.{TopIsEmpty, StoredIsLoaded, LoadedIsStored, OthersStay, TagIsSet, OtherTagsStay, CapIsKept, BitsAreKept};
 ghost use Rattle.kept.specs.Kept.{StoredAndLoaded, LoadedAndStored};
 

@@ -1,4 +1,6 @@
 // A capability in the 32 bytes of a line, and back (01, "A capability").
+#![tactic(auto)]
+
 ghost use Rattle.std.specs.Prelude.{◌≡◌, length};
 ghost use Rattle.manual.specs.Line.{decode, cap_in, load_cap};
 

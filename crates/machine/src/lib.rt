@@ -1,4 +1,6 @@
 // The machine runs: it judges its start, makes its steps, and is its definition for every input.
+#![tactic(auto)]
+
 ghost use Rattle.std.specs.Prelude.{◌≡◌};
 ghost use Rattle.manual.specs.Run.{run_of};
 

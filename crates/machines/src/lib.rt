@@ -1,4 +1,6 @@
 // The machine that stands in a case of a table, its registers one by one: the programs' input and no part of the model.
+#![tactic(auto)]
+
 ghost use Rattle.std.specs.Prelude.{◌≡◌};
 ghost use Rattle.tables.specs.Tables.{general_in, cap_count, cap_in, with_named, machine_in, machine_end};
 

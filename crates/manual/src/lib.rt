@@ -1,15 +1,16 @@
 // The values that the definitions beside this file speak of: numbers, capabilities, the machine, memory, a step and what is told of a run.
+#![tactic(auto)]
 
 // Counts from a base.
-#[derive(Drop)]
+#[derive(Clone, Copy)]
 pub struct Offset(pub u64);
 
 // Counts from zero.
-#[derive(Drop)]
+#[derive(Clone, Copy)]
 pub struct Address(pub u64);
 
 // The sizes of an access: of data, and a capability's line.
-#[derive(Drop)]
+#[derive(Clone, Copy)]
 pub enum Size {
     One,
     Two,
@@ -21,7 +22,7 @@ pub enum Size {
 pub const LINE: usize = 32;
 
 // A capability: its fields by 004, and the bits that no field has.
-#[derive(Drop)]
+#[derive(Clone, Copy)]
 pub struct Cap {
     pub base: Address,
     pub length: u64,
@@ -34,14 +35,14 @@ pub struct Cap {
 }
 
 // A jump that takes effect after the next instruction, or none.
-#[derive(Drop)]
+#[derive(Clone, Copy)]
 pub enum Pending {
     Quiet,
     Jump(Cap),
 }
 
 // The machine by value.
-#[derive(Drop)]
+#[derive(Clone, Copy)]
 pub struct Machine {
     pub general: [u64; 32],
     pub caps: [Cap; 32],
@@ -51,7 +52,7 @@ pub struct Machine {
 }
 
 // The operations of the MIPS arithmetic.
-#[derive(Drop)]
+#[derive(Clone, Copy)]
 pub enum Alu {
     Daddu,
     Dsubu,
@@ -65,7 +66,7 @@ pub enum Alu {
 }
 
 // The fields that CGetBase, CGetLen and their like read.
-#[derive(Drop)]
+#[derive(Clone, Copy)]
 pub enum Field {
     Base,
     Length,
@@ -77,7 +78,7 @@ pub enum Field {
 }
 
 // The tests of CPtrCmp.
-#[derive(Drop)]
+#[derive(Clone, Copy)]
 pub enum Compare {
     Eq,
     Ne,
@@ -88,7 +89,7 @@ pub enum Compare {
 }
 
 // What a word holds beside its register numbers; a signed number is in 64 bits.
-#[derive(Drop)]
+#[derive(Clone, Copy)]
 pub enum Instr {
     Reserved,
     Nop,
@@ -137,7 +138,7 @@ pub enum Instr {
 }
 
 // Where an access lies: at this index of the flash or of the RAM, or in neither.
-#[derive(Drop)]
+#[derive(Clone, Copy)]
 pub enum Place {
     Flash(usize),
     Ram(usize),
@@ -145,21 +146,21 @@ pub enum Place {
 }
 
 // What a data load gives.
-#[derive(Drop)]
+#[derive(Clone, Copy)]
 pub enum Loaded {
     Value(u64),
     Nowhere,
 }
 
 // What a capability load gives.
-#[derive(Drop)]
+#[derive(Clone, Copy)]
 pub enum LoadedCap {
     Value(Cap),
     Nowhere,
 }
 
 // What a store answers.
-#[derive(Drop)]
+#[derive(Clone, Copy)]
 pub enum Stored {
     Done,
     Flash,
@@ -167,14 +168,14 @@ pub enum Stored {
 }
 
 // An exact sum, where it is an offset: from 0 to 2^64 - 1.
-#[derive(Drop)]
+#[derive(Clone, Copy)]
 pub enum Sum {
     At(Offset),
     Outside,
 }
 
 // Where an access lies, or which test it fails.
-#[derive(Drop)]
+#[derive(Clone, Copy)]
 pub enum Access {
     At(Address),
     Length,
@@ -182,14 +183,14 @@ pub enum Access {
 }
 
 // A capability register that a word names, and what it holds.
-#[derive(Drop)]
+#[derive(Clone, Copy)]
 pub struct Named {
     pub cap: Cap,
     pub number: u8,
 }
 
 // Why a step stops.
-#[derive(Drop)]
+#[derive(Clone, Copy)]
 pub enum Fault {
     Raise(u8, u8),
     Misaligned,
@@ -220,7 +221,7 @@ pub const USER: u8 = 8;
 pub const NO_REGISTER: u8 = 255;
 
 // The one thing that an instruction does.
-#[derive(Drop)]
+#[derive(Clone, Copy)]
 pub enum Effect {
     Nothing,
     General(u8, u64),
@@ -235,28 +236,28 @@ pub enum Effect {
 }
 
 // What an instruction does, or why it stops.
-#[derive(Drop)]
+#[derive(Clone, Copy)]
 pub enum Planned {
     Does(Effect),
     Fails(Fault),
 }
 
 // The checks made so far.
-#[derive(Drop)]
+#[derive(Clone, Copy)]
 pub enum Check {
     Passed,
     Failed(Fault),
 }
 
 // The word at PCC, or why there is none.
-#[derive(Drop)]
+#[derive(Clone, Copy)]
 pub enum Fetched {
     Word(u32),
     Stops(Fault),
 }
 
 // The registers that the word's fields 25..21, 20..16, 15..11 and 10..6 name, C0, PCC and the cause.
-#[derive(Drop)]
+#[derive(Clone, Copy)]
 pub struct Operands {
     pub n25: u8,
     pub n20: u8,
@@ -275,7 +276,7 @@ pub struct Operands {
 }
 
 // What a step writes; register 0 and C0 as it was stand for none.
-#[derive(Drop)]
+#[derive(Clone, Copy)]
 pub struct Change {
     pub rd: u8,
     pub value: u64,
@@ -286,14 +287,14 @@ pub struct Change {
 }
 
 // What a step comes to.
-#[derive(Drop)]
+#[derive(Clone, Copy)]
 pub enum Turn {
     Next(Change),
     Stops(Fault),
 }
 
 // How a run ended: 01's stop or refusal, and the machine then.
-#[derive(Drop)]
+#[derive(Clone, Copy)]
 pub struct Outcome {
     pub stop: u8,
     pub cause: u8,
@@ -304,7 +305,7 @@ pub struct Outcome {
 }
 
 // Why a start or a book is refused, by a run, by the reader of books or by their writer.
-#[derive(Drop)]
+#[derive(Clone, Copy)]
 pub enum Refusal {
     Sizes,
     TagByte,
@@ -320,21 +321,21 @@ pub enum Refusal {
 }
 
 // Of a start, or of a book.
-#[derive(Drop)]
+#[derive(Clone, Copy)]
 pub enum Verdict {
     Accepted,
     Refused(Refusal),
 }
 
 // What the writer answers: the length of the book that it wrote, or why it wrote nothing.
-#[derive(Drop)]
+#[derive(Clone, Copy)]
 pub enum Written {
     Book(usize),
     Refused(Refusal),
 }
 
 // What the bench prints: stop or refusal, cause code, register, place, steps, zeros where they do not apply.
-#[derive(Drop)]
+#[derive(Clone, Copy)]
 pub struct Answer {
     pub stop: u8,
     pub cause: u8,

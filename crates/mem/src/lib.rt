@@ -1,4 +1,6 @@
 // The two memories: where an access lies, and its bytes as a part of one or the other.
+#![tactic(auto)]
+
 ghost use Rattle.std.specs.Prelude.{◌≡◌, ◌+◌, leb};
 ghost use Rattle.manual.specs.Number.{bytes_in};
 ghost use Rattle.manual.specs.Place.{memory_fits, tags_fit, place_of, bytes_of, number_of, load_of};

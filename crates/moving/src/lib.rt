@@ -1,4 +1,6 @@
 // Data loads and stores through a capability register, carried out on the values that their words name.
+#![tactic(auto)]
+
 ghost use Rattle.std.specs.Prelude.{◌≡◌};
 ghost use Rattle.moving.specs.Moving.{puts_loaded, Loads, Stores};
 

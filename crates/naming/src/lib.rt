@@ -1,4 +1,6 @@
 // What a start book names: the record of a register or of a line, where the writer gives it one (01, "The start book").
+#![tactic(auto)]
+
 ghost use Rattle.std.specs.Prelude.{◌≡◌, length};
 ghost use Rattle.manual.specs.Store.{put};
 ghost use Rattle.pages.specs.Naming.{cap_piece, general_piece, line_named};

@@ -1,4 +1,6 @@
 // Capabilities derived from others: what each narrowing instruction of 004 leaves, once its checks have passed.
+#![tactic(auto)]
+
 ghost use Rattle.std.specs.Prelude.{◌≡◌};
 ghost use Rattle.manual.specs.Narrow.{null, and_perms, inc_base, set_length, set_offset, inc_offset, clear_tag, sealed_by, and_global, unsealed_by, from_ptr};
 

@@ -1,4 +1,6 @@
 // Numbers of 64 bits, offsets and addresses, and numbers in bytes.
+#![tactic(auto)]
+
 ghost use Rattle.std.specs.Prelude.{◌≡◌, ◌%◌, ◌^◌, ◌<◌, ◌≤◌, length};
 ghost use Rattle.manual.specs.Number.{be, to_be, bytes_in, sign_extend, extend_from, address_at, offset_to, moved_by, extended};
 

@@ -1,4 +1,6 @@
 // Which variant an instruction, an operation, a field or a comparison is, as the program `words` prints it: no part of the model.
+#![tactic(auto)]
+
 ghost use Rattle.std.specs.Prelude.{◌≡◌};
 ghost use denote.Enum.Declared.{tag_of as variant_of};
 ghost use Rattle.manual.specs.contracts.Alu.{the_type as operations};

@@ -1,8 +1,10 @@
 // The values that the definitions beside this file speak of: a start book, record by record, and what it gives.
+#![tactic(auto)]
+
 use manual::{Cap, Machine, Refusal, Verdict};
 
 // What stands at a place of a book: nothing more, a record that is cut or empty, or a body.
-#[derive(Drop)]
+#[derive(Clone, Copy)]
 pub enum Head {
     End,
     Cut,
@@ -10,7 +12,7 @@ pub enum Head {
 }
 
 // What a body says: a capability register or PCC (32), a general register, a line with its tag.
-#[derive(Drop)]
+#[derive(Clone, Copy)]
 pub enum Entry {
     Capability(u8, Cap),
     General(u8, u64),
@@ -22,7 +24,7 @@ pub enum Entry {
 pub const PCC: u8 = 32;
 
 // One record of the walk: the end, a refusal, or what the record says and where it ends.
-#[derive(Drop)]
+#[derive(Clone, Copy)]
 pub enum Step {
     Done,
     Refused(Refusal),
@@ -30,7 +32,7 @@ pub enum Step {
 }
 
 // What a book gives: the verdict on it, and the machine that it names, all zero where it is refused.
-#[derive(Drop)]
+#[derive(Clone, Copy)]
 pub struct Started {
     pub verdict: Verdict,
     pub machine: Machine,

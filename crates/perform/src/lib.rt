@@ -1,4 +1,6 @@
 // A step's turn: what its fetched word plans, carried out.
+#![tactic(auto)]
+
 ghost use Rattle.std.specs.Prelude.{◌≡◌};
 ghost use Rattle.manual.specs.Act.{planned_of, act_turn, act_ram, act_tags};
 

@@ -1,4 +1,6 @@
 // The memories of a case, piece by piece, and the next case read.
+#![tactic(auto)]
+
 ghost use Rattle.std.specs.Prelude.{◌≡◌, min, length, replicate};
 ghost use Rattle.io.specs.Counts.{IsPrefixLen};
 ghost use Rattle.manual.specs.Store.{put};

@@ -1,4 +1,6 @@
 // Instructions that look at no capability register but C0, carried out on the values that their words name.
+#![tactic(auto)]
+
 ghost use Rattle.std.specs.Prelude.{◌≡◌};
 ghost use Rattle.manual.specs.Decode.{decode_word};
 ghost use Rattle.plain.specs.Plain.{sets_loaded, sets_stored, branches_by, Plainly};

@@ -1,4 +1,6 @@
 // What a word's instruction does on the registers that the word names: every check, then one effect.
+#![tactic(auto)]
+
 ghost use Rattle.std.specs.Prelude.{◌≡◌};
 ghost use Rattle.manual.specs.Checks.{settle};
 ghost use Rattle.manual.specs.Plan.{plan_of};

@@ -1,4 +1,6 @@
 // The model as a static library for C: numbers and lent buffers in, 01's number out. include/pommerzil.h is its header.
+#![tactic(auto)]
+
 ghost use Rattle.std.specs.Prelude.{◌≡◌};
 ghost use Rattle.pages.specs.Handing.{read_into};
 ghost use Rattle.pages.specs.Exported.{run_into};

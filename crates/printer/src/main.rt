@@ -1,5 +1,7 @@
 // Prints the bench's line for `start.book` and `flash.bin` of the folder that it runs in: stop or refusal, cause code, register,
 // place, steps (01, "Bench examples").
+#![tactic(auto)]
+
 ghost use Rattle.std.specs.Prelude.{◌≡◌, length};
 ghost use Rattle.io.specs.Counts.{IsPrefixLen};
 

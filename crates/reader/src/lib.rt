@@ -1,10 +1,12 @@
 // The reader of a start book: it holds the book and its place in it (01, "The start book").
+#![tactic(auto)]
+
 ghost use Rattle.std.specs.Prelude.{◌≡◌};
 ghost use Rattle.pages.specs.Record.{head_at};
 
 use pages::Head;
 
-#[derive(Drop)]
+#[derive(Clone, Copy)]
 pub struct Reader<'a> {
     pub book: &'a [u8],
     pub at: usize,

@@ -1,4 +1,6 @@
 // Words of major opcode 18 on the values that they name: fields of the register at 15..11 are read here, and `deriving` does the rest.
+#![tactic(auto)]
+
 ghost use Rattle.std.specs.Prelude.{◌≡◌};
 ghost use Rattle.deriving.specs.Deriving.{Derives};
 ghost use Rattle.reading.specs.Reading.{sets_where};

@@ -1,4 +1,6 @@
 // One record of a start book: where its body lies (01, "The start book").
+#![tactic(auto)]
+
 ghost use Rattle.std.specs.Prelude.{◌≡◌};
 ghost use Rattle.pages.specs.Record.{head_at};
 

@@ -1,4 +1,6 @@
 // What the writer of start books spells, their reader finds.
+#![tactic(auto)]
+
 ghost use Rattle.reread.specs.Records.{CapIsRead, GeneralIsRead, LineIsRead};
 ghost use Rattle.reread.specs.Claims.{WrittenIsAccepted, WrittenAndRead};
 

@@ -1,4 +1,6 @@
 // CSeal and CUnseal (004).
+#![tactic(auto)]
+
 ghost use Rattle.std.specs.Prelude.{◌≡◌, ◌+◌, eqb, ltb};
 ghost use Rattle.manual.specs.Checks.{settle};
 ghost use Rattle.manual.specs.Seal.{c_seal, c_unseal};

@@ -1,4 +1,6 @@
 // Steps of instructions that look at no capability register but C0, one after the other, as far as they go.
+#![tactic(auto)]
+
 ghost use Rattle.std.specs.Prelude.{◌≡◌, List, ℕ, ◌≤◌};
 ghost use Rattle.slide.specs.Slide.{Slides, Sees};
 
@@ -7,7 +9,7 @@ use special::Plain;
 use way::Way;
 
 // So many steps on, where the next one stands, the word there and what it is told by, as `fetch::ahead` has it.
-#[derive(Drop)]
+#[derive(Clone, Copy)]
 pub struct Slid {
     pub steps: u32,
     pub way: Way,

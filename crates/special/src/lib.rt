@@ -1,11 +1,13 @@
 // Words of major opcode 0, carried out on the values that they name.
+#![tactic(auto)]
+
 ghost use Rattle.std.specs.Prelude.{◌≡◌};
 ghost use Rattle.special.specs.Special.{sets_where, Specially};
 
 use manual::Alu;
 
 // What an instruction that looks at no capability register but C0 writes; Other for any other, and where it would stop: then nothing was done.
-#[derive(Drop)]
+#[derive(Clone, Copy)]
 pub enum Plain {
     Sets(u8, u64),
     Jumps(u64),

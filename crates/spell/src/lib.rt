@@ -1,4 +1,6 @@
 // The book of a machine, spelled record by record (01, "The start book").
+#![tactic(auto)]
+
 ghost use Rattle.std.specs.Prelude.{◌≡◌, true, ◌*◌, ◌^◌, ◌≤◌, length};
 ghost use Rattle.manual.specs.Store.{put};
 ghost use Rattle.manual.specs.Accept.{sizes_fit};

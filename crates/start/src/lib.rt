@@ -1,4 +1,6 @@
 // Whether a start is accepted: the refusals 20, 21, 22 and 24, in this order (01, "Stop numbers").
+#![tactic(auto)]
+
 ghost use Rattle.std.specs.Prelude.{◌≡◌, Bool, not, ◌&&◌, ℕ, length};
 ghost use Rattle.manual.specs.Accept.{line_fits, jump_fits, width_fits, jump_width, tag_bytes_fit, lines_fit, caps_fit, widths_fit, verdict_of};
 

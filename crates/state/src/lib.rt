@@ -1,4 +1,6 @@
 // What a step leaves in the registers, and whether a jump waits.
+#![tactic(auto)]
+
 ghost use Rattle.std.specs.Prelude.{◌≡◌};
 ghost use Rattle.manual.specs.Registers.{is_pending};
 ghost use Rattle.manual.specs.State.{next_pcc, kept};

@@ -1,4 +1,6 @@
 // The steps of a run, one after the other: by the shorter way as far as it goes, each other one by the whole way.
+#![tactic(auto)]
+
 ghost use Rattle.std.specs.Prelude.{◌≡◌, List, ℕ};
 ghost use Rattle.manual.specs.Registers.{is_pending};
 ghost use Rattle.manual.specs.Act.{act_turn, act_ram, act_tags};

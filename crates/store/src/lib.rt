@@ -1,4 +1,6 @@
 // Stores: what is written, and no other byte or tag.
+#![tactic(auto)]
+
 ghost use Rattle.std.specs.Prelude.{◌≡◌, false, length};
 ghost use Rattle.manual.specs.Number.{to_be, bytes_in};
 ghost use Rattle.manual.specs.Place.{place_of};

@@ -1,4 +1,6 @@
 // The checksums of a line, as the second program makes them.
+#![tactic(auto)]
+
 ghost use Rattle.std.specs.Prelude.{◌≡◌};
 ghost use mathlib.Core.List.{flat_map};
 ghost use Rattle.manual.specs.Number.{to_be};

@@ -1,5 +1,7 @@
 // What the programs that run a table of cases share: a case as second/src/generate/format.rs lays it out, and its line as
 // second/src/generate/answers.rs says. It is the programs' input and output and no part of the model.
+#![tactic(auto)]
+
 ghost use Rattle.std.specs.Prelude.{◌≡◌};
 ghost use Rattle.tables.specs.Tables.{byte_at, place_after, part_at, number_at, number4};
 

@@ -1,4 +1,6 @@
 // Tags: the tag of a line, of a place, and one set (01, "Memory").
+#![tactic(auto)]
+
 ghost use Rattle.std.specs.Prelude.{◌≡◌, false};
 ghost use Rattle.manual.specs.Store.{bit, tag_of, tag_at, with_tag};
 

@@ -1,4 +1,6 @@
 // Registers as bytes taken as a machine again, and its book written.
+#![tactic(auto)]
+
 ghost use Rattle.std.specs.Prelude.{◌≡◌};
 ghost use Rattle.pages.specs.Taking.{write_from};
 

@@ -1,4 +1,6 @@
 // The numbers of what is told of a start, of a book and of a run (01, "Stop numbers" and "Bench examples").
+#![tactic(auto)]
+
 ghost use Rattle.std.specs.Prelude.{◌≡◌};
 ghost use Rattle.manual.specs.Told.{refusal_number, verdict_number, code_of, bytes_of, refusing, answer_put};
 

@@ -1,4 +1,6 @@
 // Loads and stores of data through a capability (004, chapter 4; 01, "Access and fetch").
+#![tactic(auto)]
+
 ghost use Rattle.std.specs.Prelude.{◌≡◌};
 ghost use Rattle.manual.specs.Checks.{settle};
 ghost use Rattle.manual.specs.Transfer.{Through, load, store};

@@ -1,5 +1,7 @@
 // Prints the bench's line of each book and flash of a table. Standard input is a file of the second program's for the bench
 // (`second-cases 1 3000 OUT bench`): of each case a length of 4 bytes and its body, laid out as second/src/generate/format.rs says.
+#![tactic(auto)]
+
 ghost use Rattle.std.specs.Prelude.{◌≡◌, length};
 
 use asked::{BENCH_RAM, BENCH_TAGS};

@@ -1,4 +1,6 @@
 // The shorter way of a run: the words it may take, where a step of it stands, and where it ends.
+#![tactic(auto)]
+
 ghost use Rattle.std.specs.Prelude.{◌≡◌};
 ghost use Rattle.manual.specs.Narrow.{set_offset};
 ghost use Rattle.way.specs.Way.{light_word, on_from, turned_by, waiting_at};
@@ -6,7 +8,7 @@ ghost use Rattle.way.specs.Way.{light_word, on_from, turned_by, waiting_at};
 use manual::{Cap, Offset, Pending};
 
 // A step's PC, whether it is the slot of a branch, and where that branch leads.
-#[derive(Drop)]
+#[derive(Clone, Copy)]
 pub struct Way {
     pub at: Offset,
     pub slot: bool,
@@ -14,7 +16,7 @@ pub struct Way {
 }
 
 // So many steps on: the capability registers, PCC and the pending jump then.
-#[derive(Drop)]
+#[derive(Clone, Copy)]
 pub struct Glided {
     pub steps: u32,
     pub caps: [Cap; 32],

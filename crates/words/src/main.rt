@@ -1,5 +1,7 @@
 // Says of each word of a table which instruction it is. The table is standard input, four bytes a word and at most
 // 65,536 in all; a word's line is six numbers, WORD NUMBER SUB FLAG IMMEDIATE JUMP, 0 for what an instruction lacks.
+#![tactic(auto)]
+
 ghost use Rattle.std.specs.Prelude.{◌/◌, ◌<◌, length};
 
 use libc::{STDIN_FILENO, STDOUT_FILENO};

@@ -1,4 +1,6 @@
 // The writer of start books (01, "The start book").
+#![tactic(auto)]
+
 ghost use Rattle.std.specs.Prelude.{◌≡◌, true, length};
 ghost use Rattle.manual.specs.Accept.{sizes_fit};
 ghost use Rattle.pages.specs.Write.{after_start, write_book};
