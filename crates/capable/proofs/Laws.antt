@@ -5,8 +5,8 @@ use mathlib.Core.List.{List}
 use Rattle.manual.specs.declared.Planned.{Planned}
 use Rattle.manual.specs.declared.Operands.{Operands}
 use Rattle.manual.specs.Perform.{turn_of, ram_of, tags_of}
-use Rattle.deriving.specs.declared.Capable.{Capable}
-use Rattle.deriving.specs.Deriving.{Leads}
+use Rattle.derivation.specs.declared.Capable.{Capable}
+use Rattle.derivation.specs.Deriving.{Leads}
 use Rattle.special.specs.Special.{Amounts}
 
 module _ (o : Operands) (planned : Planned) (flash ram tags : List ℕ) where

@@ -6,7 +6,7 @@ use Rattle.manual.specs.declared.Named.{Named}
 use Rattle.manual.specs.Checks.{settle}
 use Rattle.manual.specs.declared.Operands.{Operands}
 use Rattle.manual.specs.Plan.{plan_of}
-use Rattle.deriving.specs.declared.Capable.{Capable}
+use Rattle.derivation.specs.declared.Capable.{Capable}
 use Rattle.special.specs.Special.{Amounts}
 
 -- operands with these parts, whatever their others

@@ -6,7 +6,7 @@ ghost use Rattle.std.specs.Prelude.{◌≡◌};
 ghost use Rattle.manual.specs.Decode.{decode_word};
 ghost use Rattle.capable.specs.Capable.{Capably};
 
-use deriving::Capable;
+use derivation::Capable;
 use manual::{Cap, Named};
 
 // What the word's instruction writes, on the registers at 25..21, 20..16, 15..11 and 10..6: told by its major opcode.

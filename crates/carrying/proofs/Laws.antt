@@ -24,7 +24,7 @@ use Rattle.manual.specs.Place.{place_in}
 use Rattle.data.specs.Data.{Reaches}
 use Rattle.manual.proofs.Tests.{both_true}
 use Rattle.data.proofs.Reaches.{planned_at, planned_reached}
-use Rattle.deriving.specs.Deriving.{puts_stored}
+use Rattle.derivation.specs.Deriving.{puts_stored}
 use Rattle.special.specs.Special.{Amounts}
 use Rattle.carrying.specs.Carrying.{puts_line, held_where, line_at, line_stored, line_ram, line_tags}
 

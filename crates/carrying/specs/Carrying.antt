@@ -12,7 +12,7 @@ use Rattle.manual.specs.Checks.{settle}
 use Rattle.manual.specs.declared.Operands.{Operands}
 use Rattle.manual.specs.Plan.{plan_of}
 use Rattle.manual.specs.Place.{place_in}
-use Rattle.deriving.specs.declared.Capable.{Capable}
+use Rattle.derivation.specs.declared.Capable.{Capable}
 use Rattle.special.specs.Special.{Amounts}
 
 abbrev pub puts_line : ℕ → LoadedCap → Capable

@@ -4,7 +4,7 @@
 ghost use Rattle.std.specs.Prelude.{◌≡◌};
 ghost use Rattle.carrying.specs.Carrying.{puts_line, held_where, line_at, line_stored, line_ram, line_tags, LoadsLine, StoresLine};
 
-use deriving::Capable;
+use derivation::Capable;
 use manual::{Access, Cap, LoadedCap, Named, Size, Stored};
 
 fn puts_line(cd: u8, loaded: LoadedCap) -> Capable
@@ -85,5 +85,5 @@ pub fn store(
     let passes = checks::both(cap::register_open(pcc.perms, cs.number), may);
     let opens = cap::register_open(pcc.perms, cb.number);
     let at = data::reached(cap::STORE_CAPABILITY, Size::Line, x, opens, cb.cap, rt);
-    deriving::puts_stored(store_line(held(passes, at), cs.cap, flash, ram, tags))
+    derivation::puts_stored(store_line(held(passes, at), cs.cap, flash, ram, tags))
 }

@@ -70,7 +70,7 @@ fn put_entry(book: &[u8], end: usize, entry: Entry, ram: &mut [u8], tags: &mut [
             let at = (address - RAM_BASE) as usize;
             let e = at + LINE;
             let start = end - LINE;
-            bytes::copy(&book[start..end], &mut ram[at..e]);
+            ram[at..e].copy_from_slice(&book[start..end]);
             tags::with_tag(tags, at / LINE, tag);
         }
         Entry::Capability(_, _) => {}

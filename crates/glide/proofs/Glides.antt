@@ -12,7 +12,7 @@ use Rattle.manual.specs.declared.Pending.{Pending}
 use Rattle.manual.specs.Registers.{is_pending}
 use Rattle.manual.specs.Fetch.{fetch_of, word_of, ahead_of}
 use Rattle.special.specs.Special.{Amounts}
-use Rattle.deriving.specs.declared.Capable.{Capable}
+use Rattle.derivation.specs.declared.Capable.{Capable}
 use Rattle.capable.specs.Capable.{Shows, Capably}
 use Rattle.manual.specs.State.{operands_of, kept, next_pcc, commit}
 use Rattle.manual.specs.Steps.{run_from}

@@ -3,7 +3,7 @@ use Rattle.std.specs.Prelude.{ℕ, List, get_or}
 use Rattle.manual.specs.declared.Cap.{Cap}
 use Rattle.manual.specs.Word.{field25, field20, field15, field10}
 use Rattle.manual.specs.Decode.{decode_word}
-use Rattle.deriving.specs.declared.Capable.{Capable}
+use Rattle.derivation.specs.declared.Capable.{Capable}
 use Rattle.capable.specs.Capable.{Capably}
 
 -- the instruction of word i, on the registers that word w names

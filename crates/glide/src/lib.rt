@@ -5,7 +5,7 @@ ghost use Rattle.std.specs.Prelude.{◌≡◌, List, ℕ, ◌≤◌};
 ghost use Rattle.slide.specs.Slide.{Glides};
 ghost use Rattle.glide.specs.Glide.{CapablyBy};
 
-use deriving::Capable;
+use derivation::Capable;
 use manual::{Cap, Named, Pending};
 use way::{Glided, Way};
 

@@ -15,7 +15,7 @@ use Rattle.manual.specs.Transfer.{load, store}
 use Rattle.manual.specs.declared.Operands.{Operands}
 use Rattle.data.specs.Data.{Reaches, loaded_at, stored_at, stores_ram, stores_tags}
 use Rattle.special.proofs.Does.{load_does, store_does}
-use Rattle.deriving.specs.Deriving.{puts_stored}
+use Rattle.derivation.specs.Deriving.{puts_stored}
 use Rattle.special.specs.Special.{Amounts}
 use Rattle.moving.specs.Moving.{puts_loaded}
 

@@ -8,7 +8,7 @@ use Rattle.manual.specs.Checks.{settle}
 use Rattle.manual.specs.declared.Operands.{Operands}
 use Rattle.manual.specs.Plan.{plan_of}
 use Rattle.special.specs.Special.{Amounts}
-use Rattle.deriving.specs.declared.Capable.{Capable}
+use Rattle.derivation.specs.declared.Capable.{Capable}
 
 abbrev pub puts_loaded : ℕ → Loaded → Capable
 puts_loaded rd (Loaded.Value v) = Capable.Sets rd v

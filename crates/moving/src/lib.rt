@@ -4,7 +4,7 @@
 ghost use Rattle.std.specs.Prelude.{◌≡◌};
 ghost use Rattle.moving.specs.Moving.{puts_loaded, Loads, Stores};
 
-use deriving::Capable;
+use derivation::Capable;
 use manual::{Cap, Instr, Loaded, Named, Size};
 
 fn puts_loaded(rd: u8, loaded: Loaded) -> Capable
@@ -66,11 +66,11 @@ pub fn stores(
             match size {
                 Size::Eight => {
                     let at = data::reached(cap::STORE, Size::Eight, x, opens, cb.cap, rt);
-                    deriving::puts_stored(data::stored(at, Size::Eight, value, flash, ram, tags))
+                    derivation::puts_stored(data::stored(at, Size::Eight, value, flash, ram, tags))
                 }
                 _ => {
                     let at = data::reached(cap::STORE, size, x, opens, cb.cap, rt);
-                    deriving::puts_stored(data::stored(at, size, value, flash, ram, tags))
+                    derivation::puts_stored(data::stored(at, size, value, flash, ram, tags))
                 }
             }
         }

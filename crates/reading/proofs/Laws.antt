@@ -14,7 +14,7 @@ use Rattle.manual.specs.Inspect.{field_of, get}
 use Rattle.manual.specs.declared.Operands.{Operands}
 use Rattle.manual.specs.Plan.{plan_of}
 use Rattle.manual.proofs.Tests.{both_true}
-use Rattle.deriving.specs.Deriving.{Leads}
+use Rattle.derivation.specs.Deriving.{Leads}
 use Rattle.reading.specs.Reading.{sets_where}
 
 pub get_leads : (o : Operands) (field : ℕ) (f : Field) (opens passes : Bool) (rd v : ℕ) (pcc : Cap) (cb : Named) → opens ≡ register_open pcc.perms cb.number → passes ≡ (eqb field 0 && opens) → v ≡ field_of f cb.cap

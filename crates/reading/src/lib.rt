@@ -1,11 +1,11 @@
-// Words of major opcode 18 on the values that they name: fields of the register at 15..11 are read here, and `deriving` does the rest.
+// Words of major opcode 18 on the values that they name: fields of the register at 15..11 are read here, and `derivation` does the rest.
 #![tactic(auto)]
 
 ghost use Rattle.std.specs.Prelude.{◌≡◌};
-ghost use Rattle.deriving.specs.Deriving.{Derives};
+ghost use Rattle.derivation.specs.Deriving.{Derives};
 ghost use Rattle.reading.specs.Reading.{sets_where};
 
-use deriving::Capable;
+use derivation::Capable;
 use manual::{Cap, Named};
 
 fn sets(passes: bool, rd: u8, value: u64) -> Capable
@@ -32,6 +32,6 @@ pub fn read(word: u32, rd: u8, pcc: Cap, cb: Named, rt: u64) -> Capable
         4 => sets(passes, rd, compute::number(c.tag)),
         5 => sets(passes, rd, compute::number(c.sealed)),
         6 => sets(passes, rd, c.otype as u64),
-        _ => deriving::derived(word, rd, pcc, cb, rt),
+        _ => derivation::derived(word, rd, pcc, cb, rt),
     }
 }

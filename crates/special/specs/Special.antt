@@ -11,7 +11,7 @@ use Rattle.manual.specs.declared.Change.{Change}
 use Rattle.manual.specs.declared.Turn.{Turn}
 use Rattle.manual.specs.Perform.{to_general, to_capability}
 use Rattle.manual.specs.Act.{done_turn, done_ram, done_tags}
-use Rattle.deriving.specs.declared.Capable.{Capable}
+use Rattle.derivation.specs.declared.Capable.{Capable}
 use Rattle.special.specs.declared.Plain.{Plain}
 
 abbrev pub sets_where : Bool → ℕ → ℕ → Plain

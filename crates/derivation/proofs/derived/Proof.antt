@@ -4,9 +4,9 @@ use Rattle.manual.specs.declared.Instr.{Instr}
 use Rattle.manual.specs.Word.{below}
 use Rattle.manual.specs.Decode.{lookup, numbers, unused, capability_word}
 use Rattle.manual.specs.Plan.{plan_of}
-use Rattle.deriving.proofs.Laws.{leads, Tests, tested, and_perm, clear_tag_lem, inc_base_lem, set_len, set_offset_lem, inc_offset_lem}
-use Rattle.deriving.proofs.derived.Statement.{statement}
-use Rattle.deriving.proofs.derived.Tie as tie
+use Rattle.derivation.proofs.Laws.{leads, Tests, tested, and_perm, clear_tag_lem, inc_base_lem, set_len, set_offset_lem, inc_offset_lem}
+use Rattle.derivation.proofs.derived.Statement.{statement}
+use Rattle.derivation.proofs.derived.Tie as tie
 
 -- what the tests before the match say
 holds : (k : tie.After-both8) → let a = k.before.before.before.before.before.before.before.before.before.before.before.before.before.args in Tests a.word a.pcc a.cd a.cb a.rt k.before.before.before.before.before.before.before.before.before.both.result k.before.before.before.before.before.before.before.before.both2.result k.before.before.before.before.before.before.before.both3.result k.before.before.before.before.before.both5.result k.before.before.both7.result k.both8.result

@@ -9,7 +9,7 @@ use Rattle.manual.specs.declared.Planned.{Planned}
 use Rattle.manual.specs.Checks.{settle}
 use Rattle.manual.specs.declared.Operands.{Operands}
 use Rattle.manual.specs.Plan.{plan_of}
-use Rattle.deriving.specs.declared.Capable.{Capable}
+use Rattle.derivation.specs.declared.Capable.{Capable}
 
 abbrev pub puts_where : Bool → ℕ → Cap → Capable
 puts_where passes cd c = cond passes (Capable.Puts cd c) Capable.Other

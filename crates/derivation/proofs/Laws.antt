@@ -18,7 +18,7 @@ use Rattle.manual.specs.Derive.{c_and_perm, c_clear_tag, c_inc_base, c_set_len, 
 use Rattle.manual.specs.declared.Operands.{Operands}
 use Rattle.manual.specs.Plan.{plan_of}
 use Rattle.manual.proofs.Tests.{both_true}
-use Rattle.deriving.specs.Deriving.{puts_where, Leads}
+use Rattle.derivation.specs.Deriving.{puts_where, Leads}
 
 -- an answer that asks for its checks, of an instruction whose unused field is tested first
 pub leads : (o : Operands) (field : ℕ) (i : Instr) (passes : Bool) (cd : ℕ) (c : Cap) → (passes ≡ true → (eqb field 0 ≡ true) × (settle (plan_of o i) ≡ Planned.Does (Effect.Capability cd c)))

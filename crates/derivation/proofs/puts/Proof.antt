@@ -1,6 +1,6 @@
 use borrow.Author.Rules.{rules}
-use Rattle.deriving.proofs.puts.Statement.{statement}
-use Rattle.deriving.proofs.puts.Tie as tie
+use Rattle.derivation.proofs.puts.Statement.{statement}
+use Rattle.derivation.proofs.puts.Tie as tie
 
 returns : tie.Need-returns
 returns c = rw c.if1.true

@@ -2,7 +2,7 @@
 #![tactic(auto)]
 
 ghost use Rattle.std.specs.Prelude.{◌≡◌};
-ghost use Rattle.deriving.specs.Deriving.{puts_where, puts_stored, Derives};
+ghost use Rattle.derivation.specs.Deriving.{puts_where, puts_stored, Derives};
 
 use manual::{Cap, Named, Offset, Stored};
 
