@@ -35,10 +35,10 @@ returns-in-Refused c = let v = c.loop-machine.invariant in
     record { value = ap (λ (s : Start). s.machine) e; ram_after = ap (λ (s : Start). s.ram) e; tags_after = ap (λ (s : Start). s.tags) e }
 
 pub with_entry-machine-requires : goal.with_entry-machine-requires
-with_entry-machine-requires c κs = registered _ _ _ _ _ _ _ (sym c.in-More.is ∙ c.step_at-step.ensures)
+with_entry-machine-requires c = registered _ _ _ _ _ _ _ (sym c.in-More.is ∙ c.step_at-step.ensures)
 
 pub put_entry-requires : goal.put_entry-requires
-put_entry-requires c κs = there _ _ _ _ _ _ _ _ c.loop-machine.invariant.0 (sym c.in-More.is ∙ c.step_at-step.ensures)
+put_entry-requires c = there _ _ _ _ _ _ _ _ c.loop-machine.invariant.0 (sym c.in-More.is ∙ c.step_at-step.ensures)
 
 pub loop-machine-smaller : goal.loop-machine-smaller
 loop-machine-smaller c = let a = c.args in

@@ -13,10 +13,10 @@ use Rattle.sums.proofs.sum_caps.Goals as goal
 
 pub loop-i-preserved : goal.loop-i-preserved
 loop-i-preserved c = let l = c.loop-i in
-    sum_next cap_bytes null c.args.t2 l.i l.sum _ (omega arith) c.sum_cap-sum.ensures ∙ l.invariant
+    sum_next cap_bytes null c.args.caps l.i l.sum _ (omega arith) c.sum_cap-sum.ensures ∙ l.invariant
 
 pub returns : goal.returns
-returns c = let l = c.loop-i in sym (sum_last cap_bytes null c.args.t2 l.i l.sum (omega arith)) ∙ l.invariant
+returns c = let l = c.loop-i in sym (sum_last cap_bytes null c.args.caps l.i l.sum (omega arith)) ∙ l.invariant
 
 pub loop-i-init : goal.loop-i-init
 loop-i-init c = refl
