@@ -49,5 +49,5 @@ loop-machine-smaller c = let a = c.args in
 pub loop-machine-preserved : goal.loop-machine-preserved
 loop-machine-preserved c = let v = c.loop-machine.invariant in
     let p = c.put_entry in
-    let w = goes_on v.2 _ _ _ _ _ _ _ _ _ _ _ v.3 (sym c.in-More.is ∙ c.step_at-step.ensures) c.kind_of-kind.ensures c.key_of-key.ensures (enters _ _ _ _ _ _ _ _ _ c.with_entry-machine.ensures p.ensures.0 p.ensures.1) in
-    (p.auto.1.1.1.0 ∙ v.0, p.auto.1.1.1.1.0 ∙ v.1, w.0, w.1, w.2 ∙ v.4)
+    let w = goes_on v.2 _ _ _ _ _ _ _ _ _ _ _ v.3 (sym c.in-More.is ∙ c.step_at-step.ensures) c.kind_of-kind.ensures c.key_of-key.ensures (enters _ _ _ _ _ _ _ _ _ c.with_entry-machine.ensures p.ensures.ram_after p.ensures.tags_after) in
+    (p.auto.ram ∙ v.0, p.auto.tags ∙ v.1, w.0, w.1, w.2 ∙ v.4)

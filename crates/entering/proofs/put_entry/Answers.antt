@@ -14,17 +14,11 @@ overflow_sub-at c = (is_line_lem _ _ _ _ _ c.in-Line.is c.requires).2
 pub overflow_sub-start : goal.overflow_sub-start
 overflow_sub-start c = (is_line_lem _ _ _ _ _ c.in-Line.is c.requires).0
 
--- LEFT part-copy-end : tie.Need-slice-bounds-copy-end
--- LEFT part-copy-end c = omega (arith, (is_line_lem _ _ _ _ _ c.in-Line.is c.requires).1)
-
--- LEFT part-copy-end-2 : tie.Need-slice-bounds-copy-end-2
--- LEFT part-copy-end-2 c = omega (arith, ((is_line_lem _ _ _ _ _ c.in-Line.is c.requires).before).3)
-
 pub returns-in-Line : goal.returns-in-Line
 unfolding ram_with tags_with
 returns-in-Line c = let a = c.args in
     let f = (is_line_lem _ _ _ _ _ c.in-Line.is c.requires) in
-    rw c.in-Line.is record { ram_after = copied a.book.now a.ram.now _ a.end _ f.0 f.1 f.3 c.copy.ensures.1; tags_after = c.with_tag.ensures }
+    rw c.in-Line.is record { ram_after = copied a.book.now a.ram.now _ a.end _ f.0 f.1 f.3 c.copy_from_slice.ensures.after; tags_after = c.with_tag.ensures }
 
 pub returns-in-Capability : goal.returns-in-Capability
 unfolding ram_with tags_with

@@ -60,7 +60,7 @@ returns-then-has_room c = let a = c.args in
     (leb-true (a.at + 38) (length a.out.now) (sym c.has_room.ensures ∙ c.if-has_room.true))
 
 pub shape_of-out : goal.shape_of-out
-shape_of-out c = ap length (returns c) ∙ length-put _ _ _
+shape_of-out c = ap length (returns-then-has_room c) ∙ length-put _ _ _
 
 pub returns-else-has_room : goal.returns-else-has_room
 returns-else-has_room c = let a = c.args in
