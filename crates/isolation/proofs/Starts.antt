@@ -17,7 +17,6 @@ use Rattle.manual.specs.Accept.{top_fits, jump_fits, loaded_fits, width_fits, ju
 use Rattle.manual.proofs.Tests.{both_true}
 use Rattle.manual.proofs.Accepted.{whole_lines, few_lines, cap_top, pcc_top, jump_top, cap_width, pcc_width, jump_width_lem, line_top, bytes_32, loaded_top}
 use Rattle.manual.specs.declared.Machine.{Machine}
-use Rattle.manual.specs.State.{capability}
 use Rattle.isolation.specs.Reach.{Memories, line_cap, Held, in_register, in_pcc, in_pending}
 use Rattle.isolation.specs.Claims.{Accepted}
 use Rattle.isolation.proofs.Ranges.{Fits}

@@ -4,7 +4,6 @@ use mathlib.Core.Path.{◌≡◌}
 use mathlib.Core.Bool.{Bool, true, false}
 use mathlib.Core.List.{List}
 use native.Mathlib.Omega.{arith}
-use lib.ListN.{length}
 use Rattle.manual.specs.Number.{to_be, plus_mod}
 use Rattle.manual.specs.Store.{bit}
 use Rattle.manual.proofs.Numbers.{length-to_be, be-to_be}

@@ -6,7 +6,7 @@ use native.Mathlib.Omega.{arith}
 use native.Mathlib.Nat.{add-zero, sub-zero, add_assoc}
 use borrow.Author.Tests.{ltb-false, lt-ltb, le-ltb, le-leb, lt-leb}
 use lib.Dec.{ltb}
-use lib.IntN.{ℤ, pos, negsuc, ◌+ℤ◌, +ℤ_assoc, +ℤ_comm}
+use lib.IntN.{ℤ, pos, negsuc, +ℤ_assoc, +ℤ_comm}
 use Rattle.manual.specs.declared.Address.{Address}
 use Rattle.manual.specs.declared.Offset.{Offset}
 use Rattle.manual.specs.Number.{plus_mod, address_at}

@@ -3,7 +3,7 @@ use Prim.Native.Nat.{◌^◌}
 use mathlib.Core.Path.{◌≡◌, refl}
 use mathlib.Core.Bool.{true, false}
 use mathlib.Core.List.{[], ◌∷◌}
-use lib.ListN.{length, replicate}
+use lib.ListN.{replicate}
 use Rattle.manual.specs.declared.Cap.{Cap}
 use Rattle.manual.specs.declared.Place.{Place}
 use Rattle.manual.specs.declared.Access.{Access}

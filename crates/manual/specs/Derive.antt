@@ -2,7 +2,6 @@
 -- cd is a register's number, cb, cs and ct are registers with what they hold, rt is a general register's value.
 use Rattle.std.specs.Prelude.{ℕ, Bool, not, ◌&&◌, ◌||◌, eqb, leb}
 use Rattle.manual.specs.declared.Cap.{Cap}
-use Rattle.manual.specs.Cap as Cap
 use Rattle.manual.specs.Narrow.{and_perms, clear_tag, inc_base, set_length, set_offset, inc_offset, from_ptr}
 use Rattle.manual.specs.declared.Named.{Named}
 use Rattle.manual.specs.declared.Effect.TheVariants.{Capability}

@@ -1,5 +1,5 @@
 -- A capability's 32 bytes in memory, and the capability that 32 bytes hold (01, "A capability").
-use Rattle.std.specs.Prelude.{ℕ, ◌+◌, ◌-◌, ◌*◌, ◌/◌, ◌%◌, ◌^◌, List, ◌++◌, Bool, cond, length, take, drop, eqb}
+use Rattle.std.specs.Prelude.{ℕ, ◌+◌, ◌*◌, ◌/◌, ◌%◌, ◌^◌, List, ◌++◌, Bool, cond, length, take, drop, eqb}
 use Rattle.manual.specs.Number.{be, to_be, address_at, offset_to}
 use Rattle.manual.specs.Place.{place_of, bytes_of}
 use Rattle.manual.specs.Store.{bit, tag_at}

@@ -1,11 +1,10 @@
 -- The laws of entering a book: a line copied, and the walk over one record. Assumes nothing.
 use Prim.Native.Nat.{ℕ, zero, suc, ◌+◌, ◌-◌, ◌≤◌}
 use mathlib.Core.Path.{◌≡◌, refl, sym, ◌∙◌, subst}
-use mathlib.Core.List.{List, ◌++◌, append-nil}
+use mathlib.Core.List.{List, ◌++◌}
 use native.Mathlib.Omega.{arith}
-use native.Mathlib.Nat.{add-sub_cancel_left}
-use lib.ListN.{length, take, drop, length-drop, length-take, drop_of_length-le}
-use lib.Seq.{length-take-le, take-length}
+use lib.ListN.{length, take, drop, length-drop, length-take}
+use lib.Seq.{length-take-le}
 use Rattle.manual.specs.Store.{put}
 use Rattle.manual.proofs.Stores.{put_part}
 use Rattle.manual.specs.declared.Machine.{Machine}

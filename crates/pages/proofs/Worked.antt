@@ -2,10 +2,9 @@
 use Prim.Native.Nat.{ℕ}
 use mathlib.Core.Path.{◌≡◌, refl}
 use mathlib.Core.List.{List, [], ◌∷◌, ◌++◌}
-use lib.ListN.{length, get_or, replicate}
+use lib.ListN.{get_or, replicate}
 use Rattle.manual.specs.Number.{be, to_be}
 use Rattle.manual.specs.Narrow.{null}
-use Rattle.manual.specs.Accept.{every}
 use Rattle.manual.specs.declared.Pending.{Pending}
 use Rattle.manual.specs.declared.Refusal.{Refusal}
 use Rattle.manual.specs.declared.Machine.{Machine}

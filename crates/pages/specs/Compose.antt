@@ -1,5 +1,5 @@
 -- One record of a start book as its writer spells it (01, "The start book"): a 2-byte big-endian length of its body, and the body.
-use Rattle.std.specs.Prelude.{ℕ, ◌+◌, Bool, not, ◌&&◌, List, [], ◌∷◌, ◌++◌, length, get_or, eqb}
+use Rattle.std.specs.Prelude.{ℕ, Bool, not, ◌&&◌, List, [], ◌∷◌, ◌++◌, length, get_or, eqb}
 use Rattle.manual.specs.Number.{to_be}
 use Rattle.manual.specs.Store.{bit}
 use Rattle.manual.specs.declared.Cap.{Cap}

@@ -1,4 +1,3 @@
-use borrow.Author.Rules.{rules}
 use Rattle.accept.proofs.loaded_fits.Goals as goal
 
 pub returns-in-Value : goal.returns-in-Value

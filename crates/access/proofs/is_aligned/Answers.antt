@@ -1,5 +1,4 @@
 use native.Mathlib.Nat.{mod-one}
-use borrow.Author.Rules.{rules}
 use Rattle.access.proofs.is_aligned.Goals as goal
 
 pub returns-in-One : goal.returns-in-One

@@ -1,6 +1,5 @@
 use native.Mathlib.Omega.{arith}
 use Rattle.manual.proofs.Sums.{net_at, net_high, net_low}
-use borrow.Author.Rules.{rules}
 use Rattle.access.proofs.net_of.Goals as goal
 
 pub returns-then-k-offset : goal.returns-then-k-offset

@@ -1,14 +1,12 @@
 use Prim.Native.Nat.{◌+◌, ◌^◌, ◌≤◌}
-use mathlib.Core.Path.{◌≡◌, sym, ◌∙◌, ap}
+use mathlib.Core.Path.{sym, ◌∙◌, ap}
 use mathlib.Core.Bool.{Bool, cond}
 use native.Mathlib.Omega.{arith}
 use borrow.Author.Tests.{ltb-true, ltb-false}
 use Rattle.manual.specs.Number.{bytes_in}
 use Rattle.manual.proofs.Numbers.{some_bytes}
-use Rattle.manual.specs.Access.{placed_at}
 use Rattle.manual.specs.declared.Access.{Access}
 use Rattle.manual.proofs.Sums.{too_long, too_high, fitting, exact, answer}
-use borrow.Author.Rules.{rules}
 use Rattle.access.proofs.placed.Goals as goal
 
 pub returns-then-length-n : goal.returns-then-length-n

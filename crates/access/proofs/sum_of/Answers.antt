@@ -1,7 +1,6 @@
 use native.Mathlib.Omega.{arith}
 use mathlib.Core.Path.{◌∙◌}
 use Rattle.manual.proofs.Sums.{up_up, up_down, down_up, down_down, below}
-use borrow.Author.Rules.{rules}
 use Rattle.access.proofs.sum_of.Goals as goal
 
 pub returns-then-immediate-lt9223372036854775808 : goal.returns-then-immediate-lt9223372036854775808

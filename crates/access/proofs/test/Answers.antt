@@ -2,7 +2,6 @@ use mathlib.Core.Path.{sym, ◌∙◌}
 use native.Mathlib.Omega.{arith}
 use Rattle.manual.specs.Access.{access_of}
 use Rattle.manual.proofs.Sums.{sum_in, sum_out}
-use borrow.Author.Rules.{rules}
 use Rattle.access.proofs.test.Goals as goal
 
 pub returns-in-At : goal.returns-in-At

@@ -1,6 +1,5 @@
 use native.Mathlib.Omega.{arith}
 use Rattle.branch.proofs.Targets.{forward, far, back, back_past}
-use borrow.Author.Rules.{rules}
 use Rattle.branch.proofs.is_not_past.Goals as goal
 
 pub returns-then-bytes-length : goal.returns-then-bytes-length

@@ -1,7 +1,6 @@
 use mathlib.Core.Path.{sym}
 use native.Mathlib.Omega.{arith}
 use borrow.Author.Tests.{lt-ltb, le-ltb}
-use borrow.Author.Rules.{rules}
 use Rattle.cap.proofs.past_top.Goals as goal
 
 pub returns-then-b-eq0 : goal.returns-then-b-eq0

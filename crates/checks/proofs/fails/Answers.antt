@@ -1,5 +1,4 @@
 use Rattle.manual.specs.Checks.{finish, settle}
-use borrow.Author.Rules.{rules}
 use Rattle.checks.proofs.fails.Goals as goal
 
 pub returns-in-Passed : goal.returns-in-Passed

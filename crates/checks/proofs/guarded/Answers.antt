@@ -1,5 +1,4 @@
 use Rattle.manual.specs.Checks.{finish, settle}
-use borrow.Author.Rules.{rules}
 use Rattle.checks.proofs.guarded.Goals as goal
 
 pub returns-in-Failed : goal.returns-in-Failed

@@ -1,5 +1,4 @@
 use Rattle.manual.specs.Compare.{compares}
-use borrow.Author.Rules.{rules}
 use Rattle.compare.proofs.do_compare.Goals as goal
 
 pub returns-in-Eq : goal.returns-in-Eq

@@ -1,4 +1,4 @@
-use Rattle.std.proofs.Common.{arith, rules}
+use Rattle.std.proofs.Common.{arith}
 use Rattle.manual.specs.Number.{plus_mod}
 use Rattle.manual.proofs.Numbers.{difference}
 use Rattle.manual.specs.Compute.{compute_of}

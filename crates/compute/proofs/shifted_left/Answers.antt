@@ -1,4 +1,4 @@
-use Rattle.std.proofs.Common.{refl, rules}
+use Rattle.std.proofs.Common.{refl}
 use Rattle.manual.specs.Compute.{compute_of}
 use Rattle.compute.proofs.shifted_left.Goals as goal
 

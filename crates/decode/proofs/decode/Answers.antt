@@ -1,4 +1,3 @@
-use borrow.Author.Rules.{rules}
 use Rattle.manual.specs.Decode.{lookup, majors, decode_word}
 use Rattle.manual.proofs.Arms.{other}
 use Rattle.decode.proofs.decode.Goals as goal

@@ -1,9 +1,8 @@
-use borrow.Author.Rules.{rules}
 use Rattle.manual.specs.declared.Instr.{Instr}
 use Rattle.manual.specs.Word.{below}
 use Rattle.manual.specs.Decode.{lookup, numbers, unused, capability_word}
 use Rattle.manual.specs.Plan.{plan_of}
-use Rattle.derivation.proofs.Laws.{leads, Tests, tested, and_perm, clear_tag_lem, inc_base_lem, set_len, set_offset_lem, inc_offset_lem}
+use Rattle.derivation.proofs.Laws.{leads, tested, and_perm, clear_tag_lem, inc_base_lem, set_len, set_offset_lem, inc_offset_lem}
 use Rattle.derivation.proofs.derived.Goals as goal
 
 pub returns-in-10 : goal.returns-in-10

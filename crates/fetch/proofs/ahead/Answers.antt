@@ -1,4 +1,3 @@
-use borrow.Author.Rules.{rules}
 use Rattle.fetch.proofs.ahead.Goals as goal
 
 pub returns-then-is_jump_word : goal.returns-then-is_jump_word

@@ -2,7 +2,6 @@ use Rattle.manual.specs.Access.{access_of}
 use mathlib.Core.Path.{sym, ◌∙◌}
 use borrow.Author.Tests.{not-true, not-false}
 use Rattle.manual.specs.Fetch.{fetch_of}
-use borrow.Author.Rules.{rules}
 use Rattle.fetch.proofs.fetch.Goals as goal
 
 pub returns-then-not-pcc : goal.returns-then-not-pcc

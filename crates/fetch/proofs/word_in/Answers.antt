@@ -1,4 +1,3 @@
-use borrow.Author.Rules.{rules}
 use Rattle.fetch.proofs.word_in.Goals as goal
 
 pub returns-in-Value : goal.returns-in-Value

@@ -1,4 +1,3 @@
-use borrow.Author.Rules.{rules}
 use Rattle.immediate.proofs.signed_11.Goals as goal
 
 pub returns : goal.returns

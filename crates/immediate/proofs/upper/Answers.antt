@@ -1,4 +1,3 @@
-use borrow.Author.Rules.{rules}
 use Rattle.immediate.proofs.upper.Goals as goal
 
 pub returns : goal.returns

@@ -1,7 +1,6 @@
 use mathlib.Core.Path.{◌∙◌}
 use Rattle.manual.proofs.Chains.{start}
 use Rattle.manual.specs.Inspect.{c_check_perm}
-use borrow.Author.Rules.{rules}
 use Rattle.inspect.proofs.check_perm.Goals as goal
 
 pub returns : goal.returns

@@ -1,6 +1,5 @@
 use mathlib.Core.Path.{◌∙◌}
 use Rattle.manual.specs.Inspect.{c_set_cause}
-use borrow.Author.Rules.{rules}
 use Rattle.inspect.proofs.set_cause.Goals as goal
 
 pub returns : goal.returns

@@ -2,7 +2,6 @@ use mathlib.Core.Path.{ap}
 use borrow.Author.Tests.{eq-eqb, ne_eqb}
 use Rattle.manual.specs.Line.{cap_in}
 use Rattle.manual.specs.declared.LoadedCap.{LoadedCap}
-use borrow.Author.Rules.{rules}
 use Rattle.line.proofs.cap_in.Goals as goal
 
 pub returns-then-part-eq-LINE : goal.returns-then-part-eq-LINE

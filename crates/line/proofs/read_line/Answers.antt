@@ -1,5 +1,4 @@
 use Rattle.manual.specs.Line.{decode, from_words, word}
-use borrow.Author.Rules.{rules}
 use Rattle.line.proofs.read_line.Goals as goal
 
 pub returns : goal.returns

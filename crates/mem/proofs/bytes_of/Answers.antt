@@ -3,7 +3,6 @@ use native.Mathlib.Omega.{arith}
 use native.Mathlib.Nat.{add-sub_cancel_left}
 use borrow.Author.Tests.{lt-ltb, le-ltb, leb-true}
 use Rattle.manual.specs.Place.{bytes_of, place_of}
-use borrow.Author.Rules.{rules}
 use Rattle.mem.proofs.bytes_of.Goals as goal
 
 pub overflow_add-result : goal.overflow_add-result

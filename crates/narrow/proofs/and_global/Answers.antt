@@ -1,5 +1,4 @@
 use Rattle.manual.specs.Narrow.{and_global}
-use Rattle.std.proofs.Common.{rules}
 use Rattle.narrow.proofs.and_global.Goals as goal
 
 pub returns-then-permits : goal.returns-then-permits

@@ -1,4 +1,4 @@
-use Rattle.std.proofs.Common.{refl, rules}
+use Rattle.std.proofs.Common.{refl}
 use Rattle.manual.specs.Narrow.{and_perms}
 use Rattle.narrow.proofs.and_perms.Goals as goal
 

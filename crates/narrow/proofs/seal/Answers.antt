@@ -1,4 +1,4 @@
-use Rattle.std.proofs.Common.{true, ap, rules}
+use Rattle.std.proofs.Common.{true, ap}
 use Rattle.manual.specs.Narrow.{with_seal, sealed_by}
 use Rattle.manual.proofs.Narrows.{type_of}
 use Rattle.narrow.proofs.seal.Goals as goal

@@ -1,4 +1,3 @@
-use Rattle.std.proofs.Common.{rules}
 use Rattle.num.proofs.extend.Goals as goal
 
 pub returns-then-signed : goal.returns-then-signed

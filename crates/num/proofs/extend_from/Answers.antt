@@ -1,5 +1,5 @@
 use Rattle.manual.proofs.Numbers.{carried, kept}
-use Rattle.std.proofs.Common.{mod-lt, arith, rules}
+use Rattle.std.proofs.Common.{mod-lt, arith}
 use Rattle.num.proofs.extend_from.Goals as goal
 
 pub overflow_add-result-then-v-half-eq1 : goal.overflow_add-result-then-v-half-eq1

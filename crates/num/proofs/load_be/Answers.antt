@@ -1,4 +1,4 @@
-use Rattle.std.proofs.Common.{◌≡◌, ◌-◌, ◌%◌, ◌^◌, ◌≤◌, length, take, refl, ap, ◌∙◌, arith, take_all}
+use Rattle.std.proofs.Common.{◌%◌, ◌^◌, refl, ap, ◌∙◌, arith, take_all}
 use Rattle.manual.specs.Number.{be}
 use Rattle.manual.proofs.Numbers.{be_step}
 use Rattle.num.proofs.load_be.Goals as goal

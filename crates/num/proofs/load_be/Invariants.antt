@@ -1,6 +1,5 @@
-use Rattle.std.proofs.Common.{◌≡◌, ◌-◌, ◌%◌, ◌^◌, ◌≤◌, length, take, refl, ap, ◌∙◌, arith, take_all}
+use Rattle.std.proofs.Common.{◌≡◌, ◌-◌, ◌%◌, ◌^◌, ◌≤◌, length, take}
 use Rattle.manual.specs.Number.{be}
-use Rattle.manual.proofs.Numbers.{be_step}
 use Rattle.num.proofs.load_be.Given as goal
 
 abbrev pub invariant-loop-i : goal.invariant-loop-i

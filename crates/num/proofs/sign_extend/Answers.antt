@@ -1,4 +1,4 @@
-use Rattle.std.proofs.Common.{lt_of_lt_of_le, lit≤, rules}
+use Rattle.std.proofs.Common.{lt_of_lt_of_le, lit≤}
 use Rattle.manual.specs.Number.{sign_extend}
 use Rattle.manual.proofs.Numbers.{roomy}
 use Rattle.num.proofs.sign_extend.Goals as goal

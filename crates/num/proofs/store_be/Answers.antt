@@ -1,6 +1,5 @@
-use Rattle.std.proofs.Common.{◌≡◌, ◌-◌, ◌/◌, ◌^◌, ◌≤◌, ◌++◌, length, take, refl, ◌∙◌, div-one, arith, length-set}
+use Rattle.std.proofs.Common.{length, refl, ◌∙◌, div-one, arith, length-set}
 use native.Mathlib.Nat.{sub_self}
-use Rattle.manual.specs.Number.{to_be}
 use Rattle.manual.proofs.Numbers.{store_none, store_more, store-left, store_all}
 use Rattle.num.proofs.store_be.Goals as goal
 

@@ -1,7 +1,6 @@
 use borrow.Author.Tests.{lt-ltb, le-leb, lt-leb}
 use Rattle.pages.specs.Record.{head_at}
 use Rattle.pages.proofs.Heads.{empty, short, whole}
-use borrow.Author.Rules.{rules}
 use Rattle.record.proofs.head_at.Goals as goal
 
 pub returns-then-book-at : goal.returns-then-book-at

@@ -1,7 +1,6 @@
 use mathlib.Core.Path.{sym}
 use native.Mathlib.Omega.{arith}
 use borrow.Author.Tests.{lt-ltb, le-ltb}
-use borrow.Author.Rules.{rules}
 use Rattle.seal.proofs.sum_below.Goals as goal
 
 pub returns-then-b-limit : goal.returns-then-b-limit

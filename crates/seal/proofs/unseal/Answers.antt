@@ -1,7 +1,6 @@
 use mathlib.Core.Path.{◌∙◌}
 use Rattle.manual.proofs.Chains.{start}
 use Rattle.manual.specs.Seal.{c_unseal}
-use borrow.Author.Rules.{rules}
 use Rattle.seal.proofs.unseal.Goals as goal
 
 pub returns : goal.returns

@@ -1,4 +1,3 @@
-use borrow.Author.Rules.{rules}
 use Rattle.state.proofs.next_pcc.Goals as goal
 
 pub returns-in-Quiet : goal.returns-in-Quiet

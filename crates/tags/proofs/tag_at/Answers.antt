@@ -1,4 +1,3 @@
-use borrow.Author.Rules.{rules}
 use Rattle.tags.proofs.tag_at.Goals as goal
 
 pub returns-in-Ram : goal.returns-in-Ram

@@ -3,7 +3,6 @@ use mathlib.Core.Path.{sym}
 use borrow.Author.Tests.{eq-eqb, ne_eqb}
 use lib.ListN.{get_or-eq_default}
 use Rattle.manual.specs.Store.{tag_of}
-use borrow.Author.Rules.{rules}
 use Rattle.tags.proofs.tag_of.Goals as goal
 
 pub returns-then-tags-line-eq1 : goal.returns-then-tags-line-eq1

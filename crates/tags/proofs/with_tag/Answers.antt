@@ -2,7 +2,6 @@ use mathlib.Core.Path.{sym, ap}
 use lib.ListN.{set}
 use lib.Seq.{set_out}
 use Rattle.manual.specs.Store.{with_tag}
-use borrow.Author.Rules.{rules}
 use Rattle.tags.proofs.with_tag.Goals as goal
 
 pub returns-then-line-tags : goal.returns-then-line-tags

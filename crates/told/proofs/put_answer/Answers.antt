@@ -1,5 +1,4 @@
 use native.Mathlib.Omega.{arith}
-use borrow.Author.Rules.{rules}
 use borrow.Author.Tests.{lt-leb, le-leb}
 use lib.ListN.{length-set}
 use Rattle.told.proofs.Laws.{five_set}
