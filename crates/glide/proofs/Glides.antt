@@ -9,11 +9,10 @@ use Rattle.manual.specs.declared.Cap.{Cap}
 use Rattle.manual.specs.Narrow.{null, set_offset}
 use Rattle.manual.specs.Word.{field25, field20, field15, field10}
 use Rattle.manual.specs.declared.Pending.{Pending}
-use Rattle.manual.specs.Registers.{is_pending}
-use Rattle.manual.specs.Fetch.{fetch_of, word_of, ahead_of}
+use Rattle.manual.specs.Fetch.{fetch_of, word_of}
 use Rattle.special.specs.Special.{Amounts}
 use Rattle.derivation.specs.declared.Capable.{Capable}
-use Rattle.capable.specs.Capable.{Shows, Capably}
+use Rattle.capable.specs.Capable.{Shows}
 use Rattle.manual.specs.State.{operands_of, kept, next_pcc, commit}
 use Rattle.manual.specs.Steps.{run_from}
 use Rattle.way.specs.declared.Way.{Way}

@@ -1,5 +1,4 @@
 use mathlib.Core.Path.{refl}
-use borrow.Author.Rules.{rules}
 use Rattle.pages.specs.Bench.{bench_of}
 use Rattle.answer.proofs.bench.Goals as goal
 

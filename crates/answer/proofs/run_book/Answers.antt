@@ -1,5 +1,4 @@
 use mathlib.Core.Path.{sym, ◌∙◌}
-use borrow.Author.Rules.{rules}
 use Rattle.answer.proofs.Laws.{refused, accepted}
 use Rattle.answer.proofs.run_book.Goals as goal
 

@@ -2,7 +2,6 @@ use mathlib.Core.Path.{refl}
 use Rattle.pages.specs.declared.Entry.{Entry}
 use Rattle.pages.specs.Book.{after_entry}
 use Rattle.pages.proofs.Walks.{ordered_as}
-use borrow.Author.Rules.{rules}
 use Rattle.book.proofs.after_entry.Goals as goal
 
 pub returns-in-Refused : goal.returns-in-Refused

@@ -1,11 +1,7 @@
 use Prim.Native.Nat.{ℕ, ◌+◌, ◌-◌, ◌≤◌}
-use mathlib.Core.Path.{◌≡◌, sym, ap, ◌∙◌}
-use native.Mathlib.Omega.{arith}
-use borrow.Author.Tests.{eq-eqb, ne_eqb}
+use mathlib.Core.Path.{◌≡◌}
 use lib.ListN.{length}
 use Rattle.pages.specs.Book.{step_at, walk, check_book}
-use Rattle.pages.proofs.Walks.{more_fits, walk_done, walk_refused, walk_more, check_start}
-use borrow.Author.Rules.{rules}
 use Rattle.book.proofs.check.Given as goal
 
 abbrev pub invariant-loop-refusal : goal.invariant-loop-refusal

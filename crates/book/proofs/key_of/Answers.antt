@@ -1,4 +1,3 @@
-use borrow.Author.Rules.{rules}
 use Rattle.book.proofs.key_of.Goals as goal
 
 pub returns-in-Capability : goal.returns-in-Capability

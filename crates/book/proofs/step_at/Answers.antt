@@ -3,7 +3,6 @@ use mathlib.Core.Path.{sym, ◌∙◌}
 use Rattle.pages.proofs.Heads.{body_fits}
 use Rattle.pages.specs.Book.{step_at, after_head}
 use Rattle.pages.proofs.Walks.{step_body}
-use borrow.Author.Rules.{rules}
 use Rattle.book.proofs.step_at.Goals as goal
 
 pub returns-in-End : goal.returns-in-End

@@ -1,4 +1,3 @@
-use borrow.Author.Rules.{rules}
 use Rattle.manual.specs.Word.{signed16}
 use Rattle.manual.specs.Decode.{lookup, majors, decode_word, capability_word}
 use Rattle.manual.specs.Checks.{settle}

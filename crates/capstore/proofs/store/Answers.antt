@@ -1,12 +1,9 @@
-use Prim.Native.Nat.{◌+◌, ◌≤◌}
-use lib.ListN.{length}
 use mathlib.Core.Path.{refl, sym, ◌∙◌}
 use native.Mathlib.Omega.{arith}
 use Rattle.manual.proofs.Places.{ram_holds}
 use Rattle.manual.proofs.Stores.{put_part}
 use Rattle.manual.specs.Line.{encode}
 use Rattle.manual.proofs.Lines.{length-encode}
-use borrow.Author.Rules.{rules}
 use Rattle.capstore.proofs.store.Goals as goal
 
 pub overflow_add-e : goal.overflow_add-e

@@ -1,7 +1,6 @@
 use Rattle.manual.specs.Number.{address_at}
 use Rattle.manual.specs.Line.{encode, first_word}
 use Rattle.manual.proofs.Lines.{line_of}
-use borrow.Author.Rules.{rules}
 use Rattle.capstore.proofs.write_line.Goals as goal
 
 pub returns : goal.returns

@@ -1,7 +1,6 @@
 use mathlib.Core.Path.{sym, ◌∙◌}
 use Rattle.manual.proofs.Chains.{start}
 use Rattle.manual.specs.Transfer.{c_sc}
-use borrow.Author.Rules.{rules}
 use Rattle.captransfer.proofs.csc.Goals as goal
 
 pub returns-in-At : goal.returns-in-At

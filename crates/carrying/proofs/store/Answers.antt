@@ -1,4 +1,3 @@
-use borrow.Author.Rules.{rules}
 use Rattle.manual.specs.Plan.{plan_of}
 use Rattle.carrying.proofs.Laws.{csc_amounts, stores}
 use Rattle.carrying.proofs.store.Goals as goal

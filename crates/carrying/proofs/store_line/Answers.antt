@@ -1,5 +1,4 @@
 use mathlib.Core.Path.{refl}
-use borrow.Author.Rules.{rules}
 use Rattle.carrying.proofs.store_line.Goals as goal
 
 pub returns-in-At : goal.returns-in-At

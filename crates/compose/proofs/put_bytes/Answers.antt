@@ -2,7 +2,6 @@ use Prim.Native.Nat.{◌+◌}
 use mathlib.Core.Path.{refl, sym, ◌∙◌}
 use native.Mathlib.Omega.{arith}
 use borrow.Author.Tests.{leb-true, leb-false}
-use borrow.Author.Rules.{rules}
 use lib.ListN.{length}
 use Rattle.manual.proofs.Stores.{put_part, put_out, length_part}
 use Rattle.compose.proofs.put_bytes.Goals as goal

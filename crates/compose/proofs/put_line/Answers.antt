@@ -1,9 +1,8 @@
-use Prim.Native.Nat.{◌+◌, ◌^◌, ◌<◌}
-use mathlib.Core.List.{[], ◌∷◌}
+use Prim.Native.Nat.{◌+◌}
+use mathlib.Core.List.{◌∷◌}
 use mathlib.Core.Path.{refl, sym, ◌∙◌}
 use native.Mathlib.Omega.{arith}
 use borrow.Author.Tests.{leb-true, leb-false}
-use borrow.Author.Rules.{rules}
 use lib.ListN.{length}
 use Rattle.manual.specs.Store.{bit}
 use Rattle.manual.proofs.Stores.{put_out}

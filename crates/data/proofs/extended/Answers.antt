@@ -1,4 +1,3 @@
-use Rattle.std.proofs.Common.{rules}
 use Rattle.data.proofs.extended.Goals as goal
 
 pub returns-in-Value : goal.returns-in-Value

@@ -1,4 +1,4 @@
-use Rattle.std.proofs.Common.{refl, rules}
+use Rattle.std.proofs.Common.{refl}
 use Rattle.data.proofs.stored.Goals as goal
 
 pub returns-in-At : goal.returns-in-At

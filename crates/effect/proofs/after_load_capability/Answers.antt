@@ -1,4 +1,3 @@
-use borrow.Author.Rules.{rules}
 use Rattle.effect.proofs.after_load_capability.Goals as goal
 
 pub returns-in-Value : goal.returns-in-Value

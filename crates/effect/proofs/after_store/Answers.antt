@@ -1,4 +1,3 @@
-use borrow.Author.Rules.{rules}
 use Rattle.effect.proofs.after_store.Goals as goal
 
 pub returns-in-Done : goal.returns-in-Done

@@ -1,6 +1,5 @@
 use mathlib.Core.Path.{refl}
 use Rattle.manual.specs.Perform.{turn_of, ram_of, tags_of}
-use borrow.Author.Rules.{rules}
 use Rattle.effect.proofs.carry_out.Goals as goal
 
 pub returns-in-Nothing : goal.returns-in-Nothing

@@ -1,4 +1,3 @@
-use borrow.Author.Rules.{rules}
 use Rattle.ending.proofs.cause_after.Goals as goal
 
 pub returns-in-Raise : goal.returns-in-Raise

@@ -1,5 +1,4 @@
-use mathlib.Core.Path.{refl, sym, ◌∙◌}
-use borrow.Author.Rules.{rules}
+use mathlib.Core.Path.{sym, ◌∙◌}
 use Rattle.pages.specs.Enter.{read_book}
 use Rattle.enter.proofs.read_book.Goals as goal
 

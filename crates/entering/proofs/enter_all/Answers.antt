@@ -1,12 +1,10 @@
-use Prim.Native.Nat.{ℕ, ◌+◌, ◌-◌, ◌≤◌}
-use mathlib.Core.Path.{◌≡◌, refl, sym, ap, ◌∙◌}
+use Prim.Native.Nat.{◌-◌}
+use mathlib.Core.Path.{refl, sym, ap, ◌∙◌}
 use native.Mathlib.Omega.{arith}
-use borrow.Author.Rules.{rules}
 use lib.ListN.{length}
-use Rattle.pages.specs.Book.{step_at}
 use Rattle.pages.proofs.Walks.{more_fits}
-use Rattle.pages.specs.Entering.{Start, enter_all, enter_book, bare}
-use Rattle.pages.proofs.Enters.{holding, begins, ends, breaks, goes_on, registered, there, enters}
+use Rattle.pages.specs.Entering.{Start}
+use Rattle.pages.proofs.Enters.{begins, ends, breaks, goes_on, registered, there, enters}
 use Rattle.entering.proofs.enter_all.Goals as goal
 
 pub loop-machine-init : goal.loop-machine-init

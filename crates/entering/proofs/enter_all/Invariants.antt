@@ -1,12 +1,9 @@
 use Prim.Native.Nat.{ℕ, ◌+◌, ◌-◌, ◌≤◌}
-use mathlib.Core.Path.{◌≡◌, refl, sym, ap, ◌∙◌}
-use native.Mathlib.Omega.{arith}
-use borrow.Author.Rules.{rules}
+use mathlib.Core.Path.{◌≡◌}
 use lib.ListN.{length}
 use Rattle.pages.specs.Book.{step_at}
-use Rattle.pages.proofs.Walks.{more_fits}
-use Rattle.pages.specs.Entering.{Start, enter_all, enter_book, bare}
-use Rattle.pages.proofs.Enters.{holding, begins, ends, breaks, goes_on, registered, there, enters}
+use Rattle.pages.specs.Entering.{enter_all, enter_book, bare}
+use Rattle.pages.proofs.Enters.{holding}
 use Rattle.entering.proofs.enter_all.Given as goal
 
 abbrev pub invariant-loop-machine : goal.invariant-loop-machine

@@ -1,9 +1,5 @@
-use Prim.Native.Nat.{◌+◌, ◌-◌, ◌≤◌}
+use Prim.Native.Nat.{◌-◌}
 use mathlib.Core.Path.{refl}
-use native.Mathlib.Omega.{arith}
-use borrow.Author.Rules.{rules}
-use lib.ListN.{length}
-use Rattle.manual.specs.Place.{RAM_BASE}
 use Rattle.pages.specs.Entering.{ram_with, tags_with}
 use Rattle.pages.proofs.Enters.{copied, is_line_lem}
 use Rattle.entering.proofs.put_entry.Goals as goal

@@ -1,4 +1,3 @@
-use borrow.Author.Rules.{rules}
 use Rattle.pages.specs.Entering.{machine_with}
 use Rattle.pages.proofs.Enters.{is_register}
 use Rattle.entering.proofs.with_entry.Goals as goal

@@ -1,6 +1,5 @@
 use borrow.Author.Tests.{eq-eqb, ne_eqb}
 use Rattle.pages.specs.Entry.{entry_of}
-use borrow.Author.Rules.{rules}
 use Rattle.entry.proofs.entry_in.Goals as goal
 
 pub returns-then-body-eq0 : goal.returns-then-body-eq0

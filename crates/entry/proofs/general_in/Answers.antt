@@ -1,6 +1,5 @@
 use borrow.Author.Tests.{eq-eqb, ne_eqb}
 use Rattle.pages.specs.Entry.{general_of}
-use borrow.Author.Rules.{rules}
 use Rattle.entry.proofs.general_in.Goals as goal
 
 pub returns-then-body-ne10 : goal.returns-then-body-ne10

@@ -1,6 +1,5 @@
 use borrow.Author.Tests.{eq-eqb, ne_eqb}
 use Rattle.pages.specs.Entry.{line_of}
-use borrow.Author.Rules.{rules}
 use Rattle.entry.proofs.line_in.Goals as goal
 
 pub returns-then-body-ne42 : goal.returns-then-body-ne42

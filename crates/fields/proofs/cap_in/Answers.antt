@@ -1,5 +1,4 @@
 use Rattle.pages.specs.Fields.{cap_of}
-use borrow.Author.Rules.{rules}
 use Rattle.fields.proofs.cap_in.Goals as goal
 
 pub returns : goal.returns

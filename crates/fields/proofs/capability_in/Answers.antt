@@ -1,6 +1,5 @@
 use borrow.Author.Tests.{eq-eqb, ne_eqb}
 use Rattle.pages.specs.Fields.{capability_of}
-use borrow.Author.Rules.{rules}
 use Rattle.fields.proofs.capability_in.Goals as goal
 
 pub returns-then-body-ne36 : goal.returns-then-body-ne36

@@ -1,12 +1,6 @@
-use Prim.Native.Nat.{ℕ, ◌+◌, ◌-◌, ◌*◌, ◌≤◌}
+use Prim.Native.Nat.{ℕ, ◌+◌, ◌-◌, ◌*◌}
 use mathlib.Core.Path.{◌≡◌, sym, subst}
-use mathlib.Core.List.{List}
 use native.Mathlib.Omega.{arith}
-use borrow.Author.Rules.{rules}
-use lib.ListN.{get_or}
-use Rattle.manual.specs.declared.Cap.{Cap}
-use Rattle.manual.specs.Narrow.{null}
-use Rattle.pages.specs.Compose.{record_of, cap_body}
 use Rattle.pages.proofs.Fields.{cap_bytes_lem}
 use Rattle.pages.specs.Runs.{pieces, Runs}
 use Rattle.pages.proofs.RunLaws.{run_begins, run_next}

@@ -1,14 +1,8 @@
 use Prim.Native.Nat.{ℕ, ◌+◌, ◌-◌, ◌*◌, ◌≤◌}
-use mathlib.Core.Path.{◌≡◌, sym, subst}
 use mathlib.Core.List.{List}
-use native.Mathlib.Omega.{arith}
-use borrow.Author.Rules.{rules}
 use lib.ListN.{get_or}
 use Rattle.pages.specs.Compose.{record_of, general_body}
-use Rattle.pages.proofs.Fields.{general_bytes}
 use Rattle.pages.specs.Runs.{pieces, Runs}
-use Rattle.pages.proofs.RunLaws.{run_begins, run_next}
-use Rattle.pages.specs.Registers.{general_records}
 use Rattle.giving.proofs.put_generals.Given as goal
 
 abbrev pub piece : List ℕ → ℕ → List ℕ

@@ -1,5 +1,4 @@
 use native.Mathlib.Omega.{arith}
-use borrow.Author.Rules.{rules}
 use Rattle.pages.proofs.Registers.{registers_run, registers_out, registers_put}
 use Rattle.giving.proofs.put_registers.Goals as goal
 

@@ -1,14 +1,8 @@
-use Prim.Native.Nat.{◌+◌, ◌-◌, ◌≤◌}
-use mathlib.Core.Path.{◌≡◌, refl}
+use Prim.Native.Nat.{◌-◌}
+use mathlib.Core.Path.{refl}
 use native.Mathlib.Omega.{arith}
-use borrow.Author.Rules.{rules}
-use lib.ListN.{length}
-use Rattle.manual.specs.Narrow.{set_offset}
-use Rattle.manual.specs.declared.Pending.{Pending}
-use Rattle.way.specs.Way.{waiting_at}
-use Rattle.slide.specs.Slide.{Glides}
 use Rattle.slide.proofs.Slides.{starts}
-use Rattle.glide.proofs.Glides.{Came, came, joins}
+use Rattle.glide.proofs.Glides.{came, joins}
 use Rattle.glide.proofs.from_quiet.Goals as goal
 
 pub loop-n-init : goal.loop-n-init

@@ -1,5 +1,4 @@
 use native.Mathlib.Omega.{arith}
-use borrow.Author.Rules.{rules}
 use Rattle.slide.proofs.Slides.{starts}
 use Rattle.glide.proofs.glide.Goals as goal
 

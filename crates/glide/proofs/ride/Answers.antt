@@ -1,4 +1,3 @@
-use borrow.Author.Rules.{rules}
 use Rattle.glide.proofs.ride.Goals as goal
 
 pub returns : goal.returns

@@ -1,5 +1,4 @@
 use mathlib.Core.Path.{refl}
-use borrow.Author.Rules.{rules}
 use borrow.Author.Tests.{lt-leb}
 use Rattle.pages.specs.Registers.{REGISTERS}
 use Rattle.pages.specs.Handing.{read_into}

@@ -1,9 +1,8 @@
-use Prim.Native.Nat.{◌+◌, ◌^◌, ◌<◌}
-use mathlib.Core.List.{[], ◌∷◌}
+use Prim.Native.Nat.{◌+◌}
+use mathlib.Core.List.{◌∷◌}
 use mathlib.Core.Path.{sym, ◌∙◌}
 use native.Mathlib.Omega.{arith}
 use borrow.Author.Tests.{leb-true, leb-false}
-use borrow.Author.Rules.{rules}
 use lib.ListN.{length}
 use Rattle.manual.proofs.Stores.{put_out}
 use Rattle.pages.specs.Compose.{record_of, general_body}

@@ -1,6 +1,5 @@
 use mathlib.Core.Path.{refl, sym, ◌∙◌}
 use Rattle.manual.specs.Run.{run_of}
-use borrow.Author.Rules.{rules}
 use Rattle.machine.proofs.run.Goals as goal
 
 pub returns-in-Refused : goal.returns-in-Refused

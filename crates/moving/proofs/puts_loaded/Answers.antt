@@ -1,4 +1,3 @@
-use borrow.Author.Rules.{rules}
 use Rattle.moving.proofs.puts_loaded.Goals as goal
 
 pub returns-in-Value : goal.returns-in-Value

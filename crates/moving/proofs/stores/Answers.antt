@@ -1,5 +1,4 @@
 use Rattle.manual.specs.declared.Size.{Size}
-use borrow.Author.Rules.{rules}
 use Rattle.manual.specs.Plan.{plan_of}
 use Rattle.moving.proofs.Laws.{store_amounts}
 use Rattle.moving.proofs.stores.Goals as goal

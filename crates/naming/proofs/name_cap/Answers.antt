@@ -1,5 +1,4 @@
 use mathlib.Core.Path.{sym, ◌∙◌}
-use borrow.Author.Rules.{rules}
 use Rattle.pages.proofs.Fields.{cap_bytes_lem}
 use Rattle.pages.specs.Naming.{cap_piece}
 use Rattle.pages.proofs.Pieces.{skipped, spelled}

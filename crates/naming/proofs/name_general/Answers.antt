@@ -1,4 +1,3 @@
-use borrow.Author.Rules.{rules}
 use borrow.Author.Tests.{eq-eqb, ne_eqb}
 use Rattle.pages.proofs.Fields.{general_bytes}
 use Rattle.pages.specs.Naming.{general_piece}

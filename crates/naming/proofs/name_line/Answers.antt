@@ -1,4 +1,3 @@
-use borrow.Author.Rules.{rules}
 use Rattle.pages.proofs.Pieces.{line_skipped, line_spelled}
 use Rattle.naming.proofs.name_line.Goals as goal
 

@@ -1,5 +1,4 @@
 use mathlib.Core.Path.{refl}
-use borrow.Author.Rules.{rules}
 use Rattle.perform.proofs.act.Goals as goal
 
 pub returns-in-Fails : goal.returns-in-Fails

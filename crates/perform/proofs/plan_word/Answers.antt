@@ -1,5 +1,4 @@
 use Rattle.manual.specs.Act.{planned_of}
-use borrow.Author.Rules.{rules}
 use Rattle.perform.proofs.plan_word.Goals as goal
 
 pub returns-then-both : goal.returns-then-both

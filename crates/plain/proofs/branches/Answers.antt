@@ -1,4 +1,3 @@
-use borrow.Author.Rules.{rules}
 use Rattle.plain.proofs.branches.Goals as goal
 
 pub returns-then-taken : goal.returns-then-taken

@@ -1,6 +1,5 @@
 use Rattle.manual.specs.declared.Size.{Size}
 use mathlib.Core.Path.{refl}
-use borrow.Author.Rules.{rules}
 use Rattle.manual.specs.Cap.{register_open}
 use Rattle.manual.specs.Word.{field25}
 use Rattle.manual.specs.Decode.{lookup, majors, decode_word}

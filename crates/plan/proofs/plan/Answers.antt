@@ -1,6 +1,5 @@
 use Rattle.manual.specs.Checks.{settle}
 use Rattle.manual.specs.Plan.{plan_of}
-use borrow.Author.Rules.{rules}
 use Rattle.plan.proofs.Dispatch.{at}
 use mathlib.Core.Path.{refl}
 use Rattle.plan.proofs.plan.Goals as goal

@@ -1,5 +1,4 @@
 use mathlib.Core.Path.{refl}
-use borrow.Author.Rules.{rules}
 use Rattle.manual.specs.declared.Field.{Field}
 use Rattle.manual.specs.Word.{below}
 use Rattle.manual.specs.Decode.{lookup, numbers, unused, capability_word}

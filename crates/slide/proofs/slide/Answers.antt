@@ -1,14 +1,9 @@
-use Prim.Native.Nat.{◌-◌, ◌≤◌}
-use mathlib.Core.Path.{◌≡◌, refl}
-use mathlib.Core.List.{List}
+use Prim.Native.Nat.{◌-◌}
+use mathlib.Core.Path.{refl}
 use native.Mathlib.Omega.{arith}
-use borrow.Author.Rules.{rules}
-use lib.ListN.{length, get_or}
-use Rattle.manual.specs.declared.Cap.{Cap}
-use Rattle.manual.specs.Narrow.{null, set_offset}
+use Rattle.manual.specs.Narrow.{set_offset}
 use Rattle.way.specs.Way.{waiting_at}
-use Rattle.slide.specs.Slide.{Slides}
-use Rattle.slide.proofs.Slides.{Tells, told, slid_sets, slid_jumps, slid_rests, stays, slot_is, seen, untouched}
+use Rattle.slide.proofs.Slides.{told, slid_sets, slid_jumps, slid_rests, stays, slot_is, seen, untouched}
 use Rattle.slide.proofs.slide.Goals as goal
 
 pub loop-n-init : goal.loop-n-init

@@ -1,4 +1,3 @@
-use borrow.Author.Rules.{rules}
 use Rattle.special.proofs.sets.Goals as goal
 
 pub returns-then-passes : goal.returns-then-passes

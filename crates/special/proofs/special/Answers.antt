@@ -1,5 +1,4 @@
 use mathlib.Core.Path.{refl}
-use borrow.Author.Rules.{rules}
 use Rattle.manual.specs.Word.{field10}
 use Rattle.manual.specs.Decode.{lookup, operations, special_word}
 use Rattle.special.proofs.Laws.{nop_means, op_means}

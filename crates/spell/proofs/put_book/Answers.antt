@@ -1,8 +1,5 @@
-use mathlib.Core.Path.{◌≡◌, sym, ◌∙◌}
+use mathlib.Core.Path.{sym, ◌∙◌}
 use mathlib.Core.Bool.{true}
-use borrow.Author.Rules.{rules}
-use borrow.Author.Tests.{not-true, not-false}
-use lib.ListN.{length}
 use Rattle.manual.specs.Accept.{sizes_fit}
 use Rattle.pages.proofs.Books.{no_book, no_room, spelled}
 use Rattle.spell.proofs.put_book.Goals as goal

@@ -1,4 +1,3 @@
-use Prim.Native.Nat.{◌+◌, ◌≤◌}
 use native.Mathlib.Omega.{arith}
 use lib.ListN.{length}
 use Rattle.pages.proofs.Books.{pcc_end, generals_end, lines_there, book_runs}

@@ -1,13 +1,8 @@
-use Prim.Native.Nat.{ℕ, ◌+◌, ◌-◌, ◌≤◌}
+use Prim.Native.Nat.{◌+◌, ◌-◌}
 use mathlib.Core.Path.{ap}
-use mathlib.Core.List.{List}
 use native.Mathlib.Omega.{arith}
-use borrow.Author.Rules.{rules}
 use lib.ListN.{get_or}
-use Rattle.manual.specs.declared.Cap.{Cap}
 use Rattle.manual.specs.Narrow.{null}
-use Rattle.pages.specs.Naming.{cap_piece}
-use Rattle.pages.specs.Runs.{pieces, Runs}
 use Rattle.pages.proofs.Pieces.{cap_most}
 use Rattle.pages.proofs.RunLaws.{run_begins, run_next, run_all, run_ends}
 use Rattle.pages.specs.Spell.{cap_pieces}

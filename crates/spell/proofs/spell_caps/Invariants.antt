@@ -1,16 +1,10 @@
-use Prim.Native.Nat.{ℕ, ◌+◌, ◌-◌, ◌≤◌}
-use mathlib.Core.Path.{ap}
+use Prim.Native.Nat.{ℕ, ◌-◌, ◌≤◌}
 use mathlib.Core.List.{List}
-use native.Mathlib.Omega.{arith}
-use borrow.Author.Rules.{rules}
 use lib.ListN.{get_or}
 use Rattle.manual.specs.declared.Cap.{Cap}
 use Rattle.manual.specs.Narrow.{null}
 use Rattle.pages.specs.Naming.{cap_piece}
 use Rattle.pages.specs.Runs.{pieces, Runs}
-use Rattle.pages.proofs.Pieces.{cap_most}
-use Rattle.pages.proofs.RunLaws.{run_begins, run_next, run_all, run_ends}
-use Rattle.pages.specs.Spell.{cap_pieces}
 use Rattle.spell.proofs.spell_caps.Given as goal
 
 abbrev pub piece : List Cap → ℕ → List ℕ

@@ -1,9 +1,7 @@
-use Prim.Native.Nat.{◌+◌, ◌-◌, ◌≤◌}
+use Prim.Native.Nat.{◌+◌, ◌-◌}
 use mathlib.Core.Path.{ap}
 use native.Mathlib.Omega.{arith}
-use borrow.Author.Rules.{rules}
 use lib.ListN.{length}
-use Rattle.pages.specs.Runs.{pieces, Runs}
 use Rattle.pages.proofs.RunLaws.{run_begins, run_next, run_all, run_ends}
 use Rattle.pages.specs.Spell.{line_pieces, line_piece}
 use Rattle.pages.proofs.Books.{line_most, line_told}

@@ -1,4 +1,3 @@
-use borrow.Author.Tests.{not-true, not-false}
 use Rattle.manual.specs.Accept.{verdict_of}
 use Rattle.start.proofs.accept.Goals as goal
 

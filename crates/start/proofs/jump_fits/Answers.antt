@@ -1,4 +1,3 @@
-use borrow.Author.Rules.{rules}
 use Rattle.start.proofs.jump_fits.Goals as goal
 
 pub returns-in-Jump : goal.returns-in-Jump

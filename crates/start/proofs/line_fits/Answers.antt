@@ -1,4 +1,3 @@
-use borrow.Author.Rules.{rules}
 use Rattle.start.proofs.line_fits.Goals as goal
 
 pub returns-then-tag_of : goal.returns-then-tag_of

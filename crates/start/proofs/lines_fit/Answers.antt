@@ -1,11 +1,8 @@
-use Prim.Native.Nat.{ℕ, ◌-◌, ◌≤◌}
-use mathlib.Core.Path.{◌≡◌, sym, ◌∙◌}
-use mathlib.Core.Bool.{Bool}
-use mathlib.Core.List.{List}
+use Prim.Native.Nat.{◌-◌}
+use mathlib.Core.Path.{sym, ◌∙◌}
 use native.Mathlib.Omega.{arith}
-use borrow.Author.Rules.{rules}
 use lib.ListN.{length}
-use Rattle.manual.specs.Accept.{every, line_fits}
+use Rattle.manual.specs.Accept.{line_fits}
 use Rattle.manual.proofs.Scans.{begins, fails, passes, ends}
 use Rattle.start.proofs.lines_fit.Invariants.{test}
 use Rattle.start.proofs.lines_fit.Goals as goal

@@ -1,12 +1,9 @@
 use Prim.Native.Nat.{ℕ, ◌-◌, ◌≤◌}
-use mathlib.Core.Path.{◌≡◌, sym, ◌∙◌}
+use mathlib.Core.Path.{◌≡◌}
 use mathlib.Core.Bool.{Bool}
 use mathlib.Core.List.{List}
-use native.Mathlib.Omega.{arith}
-use borrow.Author.Rules.{rules}
 use lib.ListN.{length}
 use Rattle.manual.specs.Accept.{every, line_fits}
-use Rattle.manual.proofs.Scans.{begins, fails, passes, ends}
 use Rattle.start.proofs.lines_fit.Given as goal
 
 abbrev pub test : List ℕ → List ℕ → ℕ → Bool

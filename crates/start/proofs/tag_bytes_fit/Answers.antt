@@ -1,13 +1,9 @@
-use Prim.Native.Nat.{ℕ, ◌-◌, ◌≤◌}
-use mathlib.Core.Path.{◌≡◌, ◌∙◌, ap}
-use mathlib.Core.Bool.{Bool, not}
-use mathlib.Core.List.{List}
+use Prim.Native.Nat.{◌-◌}
+use mathlib.Core.Path.{◌∙◌, ap}
+use mathlib.Core.Bool.{not}
 use native.Mathlib.Omega.{arith}
-use borrow.Author.Rules.{rules}
-use lib.Dec.{ltb}
-use lib.ListN.{length, get_or}
+use lib.ListN.{length}
 use borrow.Author.Tests.{lt-ltb, le-ltb}
-use Rattle.manual.specs.Accept.{every}
 use Rattle.manual.proofs.Scans.{begins, fails, passes, ends}
 use Rattle.start.proofs.tag_bytes_fit.Invariants.{test}
 use Rattle.start.proofs.tag_bytes_fit.Goals as goal

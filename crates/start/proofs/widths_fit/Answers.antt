@@ -1,13 +1,6 @@
-use Prim.Native.Nat.{ℕ, ◌-◌, ◌≤◌}
-use mathlib.Core.Path.{◌≡◌, sym, ◌∙◌}
-use mathlib.Core.Bool.{Bool}
-use mathlib.Core.List.{List}
+use Prim.Native.Nat.{◌-◌}
+use mathlib.Core.Path.{sym, ◌∙◌}
 use native.Mathlib.Omega.{arith}
-use borrow.Author.Rules.{rules}
-use lib.ListN.{get_or}
-use Rattle.manual.specs.declared.Cap.{Cap}
-use Rattle.manual.specs.Narrow.{null}
-use Rattle.manual.specs.Accept.{every, width_fits}
 use Rattle.manual.proofs.Scans.{begins, fails, passes, ends}
 use Rattle.start.proofs.widths_fit.Invariants.{test}
 use Rattle.start.proofs.widths_fit.Goals as goal

@@ -1,14 +1,11 @@
 use Prim.Native.Nat.{ℕ, ◌-◌, ◌≤◌}
-use mathlib.Core.Path.{◌≡◌, sym, ◌∙◌}
+use mathlib.Core.Path.{◌≡◌}
 use mathlib.Core.Bool.{Bool}
 use mathlib.Core.List.{List}
-use native.Mathlib.Omega.{arith}
-use borrow.Author.Rules.{rules}
 use lib.ListN.{get_or}
 use Rattle.manual.specs.declared.Cap.{Cap}
 use Rattle.manual.specs.Narrow.{null}
 use Rattle.manual.specs.Accept.{every, width_fits}
-use Rattle.manual.proofs.Scans.{begins, fails, passes, ends}
 use Rattle.start.proofs.widths_fit.Given as goal
 
 abbrev pub test : List Cap → ℕ → Bool

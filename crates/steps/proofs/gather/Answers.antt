@@ -1,4 +1,3 @@
-use borrow.Author.Rules.{rules}
 use Rattle.steps.proofs.gather.Goals as goal
 
 pub returns : goal.returns

@@ -1,11 +1,8 @@
-use Prim.Native.Nat.{ℕ, ◌+◌, ◌-◌, ◌<◌, ◌≤◌}
+use Prim.Native.Nat.{ℕ, ◌+◌, ◌-◌, ◌<◌}
 use mathlib.Core.Bool.{Bool, true, false, ◌&&◌}
 use mathlib.Core.Path.{◌≡◌, refl, sym, ap, ◌∙◌}
 use native.Mathlib.Omega.{arith}
-use borrow.Author.Rules.{rules}
-use lib.ListN.{length}
-use Rattle.manual.specs.Store.{bit}
-use Rattle.manual.specs.Steps.{Result, turn_at, ram_at, tags_at, run_from}
+use Rattle.manual.specs.Steps.{Result}
 use Rattle.slide.specs.Slide.{holding}
 use Rattle.manual.proofs.Runs.{turn_is, ram_is, tags_is, on, off, done, first}
 use Rattle.glide.proofs.Glides.{along}

@@ -1,14 +1,10 @@
-use Prim.Native.Nat.{ℕ, ◌+◌, ◌-◌, ◌<◌, ◌≤◌}
-use mathlib.Core.Bool.{Bool, true, false, ◌&&◌}
-use mathlib.Core.Path.{◌≡◌, refl, sym, ap, ◌∙◌}
-use native.Mathlib.Omega.{arith}
-use borrow.Author.Rules.{rules}
+use Prim.Native.Nat.{ℕ, ◌+◌, ◌-◌, ◌≤◌}
+use mathlib.Core.Bool.{Bool}
+use mathlib.Core.Path.{◌≡◌}
 use lib.ListN.{length}
 use Rattle.manual.specs.Store.{bit}
-use Rattle.manual.specs.Steps.{Result, turn_at, ram_at, tags_at, run_from}
+use Rattle.manual.specs.Steps.{run_from}
 use Rattle.slide.specs.Slide.{holding}
-use Rattle.manual.proofs.Runs.{turn_is, ram_is, tags_is, on, off, done, first}
-use Rattle.glide.proofs.Glides.{along}
 use Rattle.steps.proofs.go.Given as goal
 
 -- a try of the shorter way at a place may make no step, and is not made there again

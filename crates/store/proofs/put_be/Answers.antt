@@ -6,7 +6,6 @@ use lib.ListN.{length}
 use Rattle.manual.specs.Number.{to_be}
 use Rattle.manual.proofs.Numbers.{length-to_be}
 use Rattle.manual.proofs.Stores.{put_part, put_out, length_part}
-use borrow.Author.Rules.{rules}
 use Rattle.store.proofs.put_be.Goals as goal
 
 pub overflow_add-e : goal.overflow_add-e

@@ -1,5 +1,4 @@
 use mathlib.Core.Path.{refl, sym, ◌∙◌}
-use borrow.Author.Rules.{rules}
 use Rattle.store.proofs.store.Goals as goal
 
 pub returns-in-Flash : goal.returns-in-Flash

@@ -1,5 +1,4 @@
 use mathlib.Core.Path.{refl, sym, ◌∙◌}
-use borrow.Author.Rules.{rules}
 use Rattle.pages.specs.Taking.{write_from}
 use Rattle.taking.proofs.write_from.Goals as goal
 

@@ -1,7 +1,6 @@
 use mathlib.Core.Path.{sym, ◌∙◌}
 use Rattle.manual.proofs.Chains.{start}
 use Rattle.manual.specs.Transfer.{load}
-use borrow.Author.Rules.{rules}
 use Rattle.transfer.proofs.plan_load.Goals as goal
 
 pub returns-in-At : goal.returns-in-At

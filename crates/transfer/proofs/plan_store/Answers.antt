@@ -1,7 +1,6 @@
 use mathlib.Core.Path.{sym, ◌∙◌}
 use Rattle.manual.proofs.Chains.{start}
 use Rattle.manual.specs.Transfer.{store}
-use borrow.Author.Rules.{rules}
 use Rattle.transfer.proofs.plan_store.Goals as goal
 
 pub returns-in-At : goal.returns-in-At

@@ -1,4 +1,3 @@
-use borrow.Author.Rules.{rules}
 use Rattle.way.proofs.on.Goals as goal
 
 pub returns-then-way : goal.returns-then-way

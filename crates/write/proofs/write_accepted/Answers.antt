@@ -1,8 +1,6 @@
-use mathlib.Core.Path.{◌≡◌, ap}
+use mathlib.Core.Path.{ap}
 use mathlib.Core.Bool.{true}
-use borrow.Author.Rules.{rules}
-use borrow.Author.Tests.{not-true, not-false}
-use Rattle.pages.specs.Write.{Result, rests}
+use Rattle.pages.specs.Write.{Result}
 use Rattle.write.proofs.Books.{waits, no_room, written}
 use Rattle.write.proofs.write_accepted.Goals as goal
 

@@ -1,5 +1,4 @@
 use mathlib.Core.Path.{refl, sym, ◌∙◌}
-use borrow.Author.Rules.{rules}
 use Rattle.pages.specs.Write.{write_book}
 use Rattle.manual.proofs.Accepted.{sizes_fit_lem}
 use Rattle.write.proofs.write_book.Goals as goal
