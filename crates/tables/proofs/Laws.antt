@@ -4,7 +4,7 @@ use native.Mathlib.Nat.{add-sub_cancel_left}
 use borrow.Author.Tests.{lt-leb}
 use lib.ListN.{get_or-eq_default}
 use lib.Seq.{take-length}
-use Rattle.io.specs.Counts.{IsPrefixLen}
+use Rattle.std.specs.Counts.{IsPrefixLen}
 use Rattle.manual.specs.Store.{put}
 use Rattle.manual.proofs.Stores.{put_part, length_part}
 use Rattle.tables.specs.Tables.{byte_at, place_after, part_at, number_at, entries, with_value}
