@@ -1,12 +1,9 @@
 -- What is read of a case, within its bytes and past them, and what is put into a memory. Assumes nothing.
-use Rattle.std.proofs.Common.{◌≡◌, ℕ, suc, ◌+◌, ◌-◌, ◌<◌, ◌≤◌, List, [], ◌++◌, length, take, drop, set, replicate, sym, refl, ◌∙◌, append-nil, arith, drop_of_length-le, length-take-le, le-ltb, lt-ltb, le-leb}
+use Rattle.std.proofs.Common.{◌≡◌, ℕ, suc, ◌+◌, ◌-◌, ◌<◌, ◌≤◌, List, [], ◌++◌, length, take, drop, set, replicate, sym, ◌∙◌, append-nil, arith, drop_of_length-le, length-take-le, le-ltb, lt-ltb, le-leb}
 use native.Mathlib.Nat.{add-sub_cancel_left}
 use borrow.Author.Tests.{lt-leb}
 use lib.ListN.{get_or-eq_default}
-use lib.Seq.{take-length}
 use Rattle.std.specs.Counts.{IsPrefixLen}
-use Rattle.manual.specs.Store.{put}
-use Rattle.manual.proofs.Stores.{put_part, length_part}
 use Rattle.tables.specs.Tables.{byte_at, place_after, part_at, number_at, entries, with_value}
 
 pub byte_past : (s : List ℕ) (at : ℕ) → length s ≤ at → 0 ≡ byte_at s at
@@ -48,12 +45,3 @@ module _ (body general : List ℕ) (at number value : ℕ) (p : number ≡ byte_
 -- filled from the front to the end
 pub filled : (l ys : List ℕ) (b i : ℕ) → ys ≡ replicate i b ++ drop i l → i ≤ length l → length l ≤ i → ys ≡ replicate (length l) b
 filled l ys b i e h k = let z : i ≡ length l = omega arith in e ∙ rw (drop_of_length-le l k, append-nil, z)
-
--- a piece copied over a part of its length
-pub copied : (l piece ys : List ℕ) (at : ℕ) → at + length piece ≤ length l
-    → ys ≡ take (length piece) piece ++ drop (length piece) (take (at + length piece - at) (drop at l))
-    → take at l ++ (ys ++ drop (at + length piece - at) (drop at l)) ≡ put l at piece
-copied l piece ys at h e =
-    let n = length_part l at (length piece) h in
-    let z : ys ≡ piece = e ∙ rw (take-length, drop_of_length-le (take (at + length piece - at) (drop at l)) {i = length piece} (omega arith), append-nil) in
-    put_part l at (length piece) ys piece h z refl
