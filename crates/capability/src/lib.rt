@@ -7,6 +7,7 @@ ghost use Rattle.manual.specs.Decode.{decoded, kinds, numbers, unused, capabilit
 use manual::{Compare, Field, Instr};
 
 // CPtrCmp by its kind.
+#[tactic(auto, unfolding(manual::specs::Decode::lookup, manual::specs::Decode::kinds))]
 fn ptr_compare(kind: u32) -> Instr
     ensures { result ≡ decoded kind kinds }
 {
@@ -22,6 +23,7 @@ fn ptr_compare(kind: u32) -> Instr
 }
 
 // The instruction of a number of major opcode 18; `count` is the word's 15..0, signed.
+#[tactic(auto, unfolding(manual::specs::Decode::lookup, manual::specs::Decode::numbers))]
 fn numbered(number: u32, word: u32, count: u64) -> Instr
     ensures { result ≡ decoded number (numbers word count) }
 {
@@ -60,6 +62,7 @@ fn numbered(number: u32, word: u32, count: u64) -> Instr
 }
 
 // The field of a word that a number of major opcode 18 does not use.
+#[tactic(auto, unfolding(manual::specs::Decode::lookup, manual::specs::Decode::unused))]
 fn unused(number: u32, word: u32) -> u32
     ensures { result ≡ unused number word }
 {
@@ -88,6 +91,7 @@ fn unused(number: u32, word: u32) -> u32
 }
 
 // A word of major opcode 18.
+#[tactic(auto, unfolding(manual::specs::Decode::capability_word))]
 pub fn capability(word: u32, count: u64) -> Instr
     ensures { result ≡ capability_word word count }
 {

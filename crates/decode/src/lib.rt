@@ -7,6 +7,7 @@ ghost use Rattle.manual.specs.Decode.{decoded, operations, special_word, coded_s
 use manual::{Alu, Instr, Size};
 
 // The operation of a function of major opcode 0.
+#[tactic(auto, unfolding(manual::specs::Decode::lookup, manual::specs::Decode::operations))]
 fn operation(function: u32) -> Instr
     ensures { result ≡ decoded function operations }
 {
@@ -25,6 +26,7 @@ fn operation(function: u32) -> Instr
 }
 
 // A word of major opcode 0.
+#[tactic(auto, unfolding(manual::specs::Decode::lookup, manual::specs::Decode::special_word))]
 fn special(word: u32) -> Instr
     ensures { result ≡ special_word word }
 {
@@ -36,6 +38,7 @@ fn special(word: u32) -> Instr
 }
 
 // The size that a size code names.
+#[tactic(auto, unfolding(manual::specs::Decode::lookup, manual::specs::Decode::coded_size))]
 fn coded_size(code: u32) -> Size
     ensures { result ≡ coded_size code }
 {
@@ -48,6 +51,7 @@ fn coded_size(code: u32) -> Size
 }
 
 // A word of major opcode 50; `offset` is its 10..3, signed.
+#[tactic(auto, unfolding(manual::specs::Decode::load_word))]
 pub fn load(word: u32, offset: u64) -> Instr
     ensures { result ≡ load_word word offset }
 {
@@ -59,6 +63,7 @@ pub fn load(word: u32, offset: u64) -> Instr
 }
 
 // A word of major opcode 58.
+#[tactic(auto, unfolding(manual::specs::Decode::store_word))]
 pub fn store(word: u32, offset: u64) -> Instr
     ensures { result ≡ store_word word offset }
 {
@@ -66,6 +71,7 @@ pub fn store(word: u32, offset: u64) -> Instr
 }
 
 // The instruction that a word is.
+#[tactic(auto, unfolding(manual::specs::Decode::lookup, manual::specs::Decode::majors, manual::specs::Decode::decode_word))]
 pub fn decode(word: u32) -> Instr
     ensures { result ≡ decode_word word }
 {

@@ -49,13 +49,13 @@ module _ (flash lines : ℕ) (few : lines ≤ 2048) (fit : sizes_fit flash (line
   line i h =
       rw (load_line s.ram s.tags i (omega (arith, g.memories.ram_size)) (omega arith), g.memories.fits i h) (either (tag_of s.tags i))
 
-  lines_fit : lines_fit s.ram s.tags ≡ true
-  lines_fit = scan (length s.tags) 0 (line_fits s.ram s.tags) (λ i h. line i (omega (arith, g.memories.tags_size)))
+  lines_fit_lem : lines_fit s.ram s.tags ≡ true
+  lines_fit_lem = scan (length s.tags) 0 (line_fits s.ram s.tags) (λ i h. line i (omega (arith, g.memories.tags_size)))
 
   tops : ((caps_fit caps && (top_fits s.machine.pcc && jump_fits s.machine.pending)) && lines_fit s.ram s.tags) ≡ true
   tops =
       both _ _ (both _ _ (scan 32 0 (λ i. top_fits (get_or caps i null)) (λ i h. (g.registers.caps i).top))
-      (both _ _ g.registers.pcc.top (ap jump_fits g.registers.quiet))) lines_fit
+      (both _ _ g.registers.pcc.top (ap jump_fits g.registers.quiet))) lines_fit_lem
 
   pub widths : ((widths_fit caps && (width_fits s.machine.pcc && jump_width s.machine.pending)) && eqb (get_or s.machine.general 0 0) 0) ≡ true
   widths =

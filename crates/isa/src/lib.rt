@@ -36,6 +36,7 @@ pub fn field_10(word: u32) -> u8
 }
 
 // The instruction, if a field that it does not use is zero.
+#[tactic(auto, unfolding(manual::specs::Decode::if_zero))]
 pub fn if_zero(field: u32, i: Instr) -> Instr
     ensures { result ≡ if_zero field i }
 {
@@ -43,6 +44,7 @@ pub fn if_zero(field: u32, i: Instr) -> Instr
 }
 
 // Whether a word counts as a branch or a jump, whatever its unused fields hold.
+#[tactic(auto, unfolding(manual::specs::Decode::lookup, manual::specs::Decode::is_jump_word))]
 pub fn is_jump_word(word: u32) -> bool
     ensures { result ≡ is_jump_word word }
 {

@@ -13,6 +13,7 @@ fn sets(rd: u8, value: u64) -> Planned
     Planned::Does(Effect::General(rd, value))
 }
 
+#[tactic(auto, unfolding(manual::specs::Plan::plan_of, manual::specs::Checks::settle))]
 pub fn plan(o: Operands, i: Instr) -> Planned
     ensures { result ≡ settle (plan_of o i) }
 {

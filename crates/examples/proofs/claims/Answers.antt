@@ -1,0 +1,5 @@
+use Rattle.examples.proofs.Table.{bench_table}
+use Rattle.examples.proofs.claims.Goals as goal
+
+pub returns : goal.returns
+returns c = bench_table

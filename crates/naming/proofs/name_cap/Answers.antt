@@ -1,0 +1,15 @@
+use mathlib.Core.Path.{sym, ◌∙◌}
+use borrow.Author.Rules.{rules}
+use Rattle.pages.proofs.Fields.{cap_bytes_lem}
+use Rattle.pages.specs.Naming.{cap_piece}
+use Rattle.pages.proofs.Pieces.{skipped, spelled}
+use Rattle.naming.proofs.name_cap.Goals as goal
+
+pub returns-then-is_zero : goal.returns-then-is_zero
+unfolding cap_piece
+returns-then-is_zero c = skipped _ _ _ _ (sym c.is_zero.ensures ∙ c.if-is_zero.true)
+
+pub returns : goal.returns
+unfolding cap_piece
+returns c = spelled _ _ _ _ _ _ (sym c.is_zero.ensures ∙ c.if-is_zero.false)
+    c.put_cap.ensures (cap_bytes_lem _ _)

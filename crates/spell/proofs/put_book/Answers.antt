@@ -1,0 +1,30 @@
+use mathlib.Core.Path.{◌≡◌, sym, ◌∙◌}
+use mathlib.Core.Bool.{true}
+use borrow.Author.Rules.{rules}
+use borrow.Author.Tests.{not-true, not-false}
+use lib.ListN.{length}
+use Rattle.manual.specs.Accept.{sizes_fit}
+use Rattle.pages.proofs.Books.{no_book, no_room, spelled}
+use Rattle.spell.proofs.put_book.Goals as goal
+
+pub returns-then-not-sizes_fit : goal.returns-then-not-sizes_fit
+returns-then-not-sizes_fit c = let a = c.args in
+    no_book a.m a.ram.now a.tags.now a.out.now (sym c.sizes_fit.ensures ∙ not-true c.sizes_fit.result c.if-not-sizes_fit.true)
+
+-- the sizes are legal
+legal : (c : goal.After-spell_all-arg-1) → sizes_fit 0 (length c.args.ram.now) (length c.args.tags.now) ≡ true
+legal c = sym c.sizes_fit.ensures ∙ not-false c.sizes_fit.result c.if-not-sizes_fit.false
+
+pub returns-then-bytes-out : goal.returns-then-bytes-out
+returns-then-bytes-out c = let a = c.args in
+    spelled a.m a.ram.now a.tags.now a.out.now (legal c) _ _ c.spell_all-bytes.ensures _ _ c.if-bytes-out.true c.spell_all.ensures
+
+pub returns-else-bytes-out : goal.returns-else-bytes-out
+returns-else-bytes-out c = let a = c.args in
+    no_room a.m a.ram.now a.tags.now a.out.now (legal c) _ _ c.spell_all-bytes.ensures c.if-bytes-out.false
+
+pub spell_all-bytes-requires : goal.spell_all-bytes-requires
+spell_all-bytes-requires c κs = legal c
+
+pub spell_all-requires : goal.spell_all-requires
+spell_all-requires c κs = legal c

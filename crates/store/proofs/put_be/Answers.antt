@@ -1,0 +1,28 @@
+use mathlib.Core.Path.{sym, ◌∙◌, ap}
+use Prim.Native.Nat.{◌+◌}
+use native.Mathlib.Omega.{arith}
+use borrow.Author.Tests.{leb-true, leb-false}
+use lib.ListN.{length}
+use Rattle.manual.specs.Number.{to_be}
+use Rattle.manual.proofs.Numbers.{length-to_be}
+use Rattle.manual.proofs.Stores.{put_part, put_out, length_part}
+use borrow.Author.Rules.{rules}
+use Rattle.store.proofs.put_be.Goals as goal
+
+pub overflow_add-e : goal.overflow_add-e
+overflow_add-e c = omega (arith, leb-true, sym c.within.ensures ∙ c.if-within.true)
+
+pub slice_bounds-store_be-end : goal.slice_bounds-store_be-end
+slice_bounds-store_be-end c = omega (arith, leb-true, sym c.within.ensures ∙ c.if-within.true)
+
+pub returns-then-within : goal.returns-then-within
+returns-then-within c = let a = c.args in
+    let h = leb-true (a.at + a.size) (length a.buf.now) (sym c.within.ensures ∙ c.if-within.true) in
+    put_part a.buf.now a.at a.size c.store_be.new.part (to_be a.size a.v) h
+    (c.store_be.ensures ∙ ap (λ n. to_be n a.v) (length_part a.buf.now a.at a.size h))
+    (length-to_be a.size a.v)
+
+pub returns-else-within : goal.returns-else-within
+returns-else-within c = let a = c.args in
+    sym (put_out a.buf.now a.at (to_be a.size a.v)
+    (rw length-to_be (leb-false (a.at + a.size) (length a.buf.now) (sym c.within.ensures ∙ c.if-within.false))))
