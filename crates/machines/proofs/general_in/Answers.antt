@@ -6,8 +6,6 @@ use Rattle.tables.proofs.Laws.{entry_more, entry_none, value_set, value_none}
 use Rattle.machines.proofs.general_in.Goals as goal
 use Rattle.machines.proofs.general_in.Goals.{then-register-lt32, else-register-lt32}
 
--- The loop's invariant: the entries that are left make of the registers what all of them make of zeros.
-
 pub loop-init : goal.loop-init
 unfolding general_in
 loop-init c = rw (sub-zero, ← c.after-count.ensures, ← c.after-at.ensures, ← c.byte-end.ensures)
@@ -19,8 +17,8 @@ loop-preserved c = let l = c.loop in
     let q = c.number-value.ensures ∙ ap (λ (x : ℕ). number_at body x 8) c.after.ensures in
     entry_more value_end (with_value body) _ l.counter l.at l.general _ _ c.loop-test.true c.after-at-in-loop.ensures
     (elim c.if-register-lt32.branch [
-      then-register-lt32 w ↦ value_set body _ _ _ _ p q _ w.if-register-lt32.true w.general-is
-    | else-register-lt32 w ↦ value_none body _ _ _ _ p q _ w.if-register-lt32.false w.general-is
+      | then-register-lt32 w ↦ value_set body _ _ _ _ p q _ w.if-register-lt32.true w.general-is
+      | else-register-lt32 w ↦ value_none body _ _ _ _ p q _ w.if-register-lt32.false w.general-is
     ])
     ∙ l.invariant
 

@@ -4,19 +4,17 @@ use Rattle.tables.specs.Tables.{cap_end, with_cap, machine_in}
 use Rattle.tables.proofs.Laws.{entry_more, entry_none}
 use Rattle.machines.proofs.machine_in.Goals as goal
 
--- The loop's invariant: the entries that are left make of the machine what all of them make of the one that names no capability.
-
 pub loop-init : goal.loop-init
 unfolding machine_in
 loop-init c = rw (
-      sub-zero,
-      c.no_cap-none.ensures,
-      ← c.general_in-general.ensures,
-      ← c.number.ensures,
-      ← c.cap_count-count.ensures,
-      ← c.after-at.ensures,
-      ← c.byte-end.ensures,
-    )
+  sub-zero,
+  c.no_cap-none.ensures,
+  ← c.general_in-general.ensures,
+  ← c.number.ensures,
+  ← c.cap_count-count.ensures,
+  ← c.after-at.ensures,
+  ← c.byte-end.ensures,
+)
 
 pub loop-preserved : goal.loop-preserved
 unfolding with_cap

@@ -5,8 +5,6 @@ use lib.ListN.{length-set}
 use Rattle.tables.proofs.Laws.{filled}
 use Rattle.pieces.proofs.fill.Goals as goal
 
--- The loop's invariant: the first `i` bytes are filled.
-
 pub loop-i-init : goal.loop-i-init
 loop-i-init c = (fill_none c.args.memory.now c.args.b, omega arith, refl)
 

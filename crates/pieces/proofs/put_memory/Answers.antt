@@ -4,8 +4,6 @@ use Rattle.tables.specs.Tables.{piece_end, with_piece, memory_in, memory_end}
 use Rattle.tables.proofs.Laws.{entry_more, entry_none}
 use Rattle.pieces.proofs.put_memory.Goals as goal
 
--- The loop's invariant: the pieces that are left make of the memory, and of the place, what all of them make of the filled one.
-
 pub loop-init : goal.loop-init
 unfolding memory_end
 loop-init c = (refl, rw sub-zero, rw (sub-zero, ← c.after-at.ensures, ← c.after-2.ensures, ← c.number_4-end.ensures))
@@ -21,5 +19,8 @@ loop-preserved c = let l = c.loop in
 pub returns : goal.returns
 unfolding memory_in
 returns c = let l = c.loop in
-    let left = c.loop-test.false in record { value = sym (entry_none (piece_end _) (λ x _. piece_end _ x) _ l.counter l.at l.at left) ∙ l.invariant.2; memory_after = rw (← c.after.ensures, ← c.byte.ensures, ← c.after-at.ensures, ← c.after-2.ensures, ← c.number_4-end.ensures, ← c.fill.ensures)
-          (sym (entry_none (piece_end _) (with_piece _) _ l.counter l.at l.memory left) ∙ l.invariant.1) }
+    let left = c.loop-test.false in record {
+      value = sym (entry_none (piece_end _) (λ x _. piece_end _ x) _ l.counter l.at l.at left) ∙ l.invariant.2;
+      memory_after = rw (← c.after.ensures, ← c.byte.ensures, ← c.after-at.ensures, ← c.after-2.ensures, ← c.number_4-end.ensures, ← c.fill.ensures)
+          (sym (entry_none (piece_end _) (with_piece _) _ l.counter l.at l.memory left) ∙ l.invariant.1);
+    }

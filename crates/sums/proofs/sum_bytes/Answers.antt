@@ -3,8 +3,6 @@ use native.Mathlib.Omega.{arith}
 use Rattle.sums.proofs.Sums.{sum_byte, sum_end}
 use Rattle.sums.proofs.sum_bytes.Goals as goal
 
--- The loop's invariant: the bytes from `i` on make of `sum` what all of them make of 1.
-
 pub loop-i-preserved : goal.loop-i-preserved
 loop-i-preserved c = let l = c.loop-i in
     let w = c.wide.ensures.0 in

@@ -5,8 +5,6 @@ use Rattle.sums.specs.Sums.{cap_bytes}
 use Rattle.sums.proofs.Sums.{sum_next, sum_last}
 use Rattle.sums.proofs.sum_caps.Goals as goal
 
--- The loop's invariant: the registers from `i` on make of `sum` what all of them make of `start`.
-
 pub loop-i-preserved : goal.loop-i-preserved
 loop-i-preserved c = let l = c.loop-i in
     sum_next cap_bytes null c.args.caps l.i l.sum _ (omega arith) c.sum_cap-sum.ensures ∙ l.invariant

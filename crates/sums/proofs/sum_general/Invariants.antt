@@ -6,6 +6,7 @@ use Rattle.manual.specs.Number.{to_be}
 use Rattle.sums.specs.Sums.{sum_with}
 use Rattle.sums.proofs.sum_general.Given as goal
 
+-- The loop's invariant: the registers from `i` on make of `sum` what all of them make of `start`.
 abbrev pub invariant-loop-i : goal.invariant-loop-i
 invariant-loop-i l = sum_with l.sum (flat_map (to_be 8) (drop l.i l.general)) ≡ sum_with l.start (flat_map (to_be 8) l.general)
 
