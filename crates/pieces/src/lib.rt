@@ -1,10 +1,11 @@
 // The memories of a case, piece by piece, and the next case read.
 #![tactic(auto)]
 
-ghost use Rattle.std.specs.Prelude.{◌≡◌, min, length, replicate};
+ghost use Rattle.std.specs.Prelude.{◌≡◌, min, length, replicate, take};
 ghost use Rattle.std.specs.Counts.{IsPrefixLen};
 ghost use Rattle.manual.specs.Store.{put};
 ghost use Rattle.tables.specs.Tables.{number4, piece_end, with_piece, memory_end, memory_in};
+ghost use Rattle.pieces.specs.Pieces.{ReadsBody};
 
 use std::io::Read;
 
@@ -72,7 +73,8 @@ pub fn size_in<'a>(s: &'a [u8], at: usize, space: &'a [u8]) -> usize
 
 // Reads a case into this space: how many bytes its body has, 0 where there is none.
 pub fn next_body<R: Read>(input: &mut R, space: &mut [u8]) -> usize
-    ensures { IsPrefixLen result space.new }
+    ensures count { IsPrefixLen result space.new }
+    ensures bytes { ReadsBody (R.remaining input.old) (R.remaining input.new) (take result space.new) }
 {
     let mut head: [u8; 4] = [0; 4];
     if tables::read_full(input, &mut head) < 4 {

@@ -1,7 +1,9 @@
 -- What is read of a case, within its bytes and past them, and what is put into a memory. Assumes nothing.
-use Rattle.std.proofs.Common.{◌≡◌, ℕ, suc, ◌+◌, ◌-◌, ◌<◌, ◌≤◌, List, [], ◌++◌, length, take, drop, set, replicate, sym, ◌∙◌, append-nil, arith, drop_of_length-le, length-take-le, le-ltb, lt-ltb, le-leb}
+use Rattle.std.proofs.Common.{◌≡◌, ℕ, suc, ◌+◌, ◌-◌, ◌<◌, ◌≤◌, List, [], ◌++◌, length, take, drop, set, replicate, sym, ap, ◌∙◌, append-nil, arith, drop_of_length-le, length-take-le, le-ltb, lt-ltb, le-leb}
 use native.Mathlib.Nat.{add-sub_cancel_left}
 use borrow.Author.Tests.{lt-leb}
+use borrow.Rule.Slice.PartMut.{put_mid, post_of}
+use lib.Seq.{take-append-add, take-append-le}
 use lib.ListN.{get_or-eq_default}
 use Rattle.std.specs.Counts.{IsPrefixLen}
 use Rattle.tables.specs.Tables.{byte_at, place_after, part_at, number_at, entries, with_value}
@@ -45,3 +47,9 @@ module _ (body general : List ℕ) (at number value : ℕ) (p : number ≡ byte_
 -- filled from the front to the end
 pub filled : (l ys : List ℕ) (b i : ℕ) → ys ≡ replicate i b ++ drop i l → i ≤ length l → length l ≤ i → ys ≡ replicate (length l) b
 filled l ys b i e h k = let z : i ≡ length l = omega arith in e ∙ rw (drop_of_length-le l k, append-nil, z)
+
+-- what is read at `done` stands behind what was read before
+pub read_more : (l ys : List ℕ) (done k n : ℕ) → done ≤ length l → n ≤ length ys → take (done + n) (put_mid done k l ys) ≡ take done l ++ take n ys
+read_more l ys done k n h i =
+    let m : done + n ≡ length (take done l) + n = omega (arith, length-take-le done l h) in
+    ap (λ (m : ℕ). take m (put_mid done k l ys)) m ∙ take-append-add (take done l) (ys ++ post_of done k l) n ∙ ap (λ (t : List ℕ). take done l ++ t) (take-append-le n ys (post_of done k l) i)
