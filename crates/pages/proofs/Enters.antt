@@ -19,14 +19,12 @@ use Rattle.pages.specs.Entering.{Start, zero_machine, machine_with, ram_with, ta
 
 -- 32 bytes of the book copied over a line of the RAM
 pub copied : (book ram ys : List ℕ) (end at : ℕ) → 32 ≤ end → end ≤ length book → at + 32 ≤ length ram
-    → ys ≡ take (length (take (end - (end - 32)) (drop (end - 32) book))) (take (end - (end - 32)) (drop (end - 32) book))
-    ++ drop (length (take (end - (end - 32)) (drop (end - 32) book))) (take (at + 32 - at) (drop at ram))
+    → ys ≡ take (end - (end - 32)) (drop (end - 32) book)
     → take at ram ++ (ys ++ drop (at + 32 - at) (drop at ram)) ≡ put ram at (take 32 (drop (end - 32) book))
 copied book ram ys end at h k l e =
     let n : end - (end - 32) ≡ 32 = omega arith in
     let q : length (take 32 (drop (end - 32) book)) ≡ 32 = length-take-le 32 (drop (end - 32) book) (simp length-drop (omega arith)) in
-    let d : length (take 32 (drop at ram)) ≡ 32 = length-take-le 32 (drop at ram) (simp length-drop (omega arith)) in
-    let z : ys ≡ take 32 (drop (end - 32) book) = e ∙ rw (add-sub_cancel_left, n, take-length, q, drop_of_length-le (take 32 (drop at ram)) {i = 32} (omega arith), append-nil) in
+    let z : ys ≡ take 32 (drop (end - 32) book) = e ∙ rw n in
     put_part ram at 32 ys (take 32 (drop (end - 32) book)) l z q
 
 -- a record of the walk has its register there, or its line's bytes and place

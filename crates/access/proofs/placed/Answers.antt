@@ -20,20 +20,18 @@ returns-then-length-n-2 c = too_long _ _ _ _ (omega arith)
 pub returns-then-past_top : goal.returns-then-past_top
 returns-then-past_top c = too_high _ _ _ _ (omega arith) (omega (arith, ltb-true, sym c.past_top.ensures ∙ c.if-past_top.true))
 
--- past the range tests, the answer is the alignment's
-fits_and_is : (c : goal.After-is_aligned)
-    → cond c.is_aligned.result (Access.At c.address_at-a.result) Access.Misaligned
-    ≡ placed_at c.args.base.0 c.args.length c.args.offset.0 (bytes_in c.args.size)
-fits_and_is c =
-    let a = c.args in
+pub returns-then-is_aligned : goal.returns-then-is_aligned
+returns-then-is_aligned c = sym (ap (λ (t : Bool). cond t (Access.At c.address_at-a.result) Access.Misaligned) c.if-is_aligned.true) ∙ (let a = c.args in
     let n = c.size_bytes-n in
     let top : a.base.0 + (a.offset.0 + n.result) ≤ 2 ^ 64 = omega (arith, ltb-false, sym c.past_top.ensures ∙ c.if-past_top.false) in
     let size = some_bytes a.size in
     fitting _ _ _ _ (omega arith) (omega arith)
-    (answer c.address_at-a.result _ _ _ (exact _ _ _ (bytes_in a.size) c.address_at-a.ensures (omega arith) size) c.is_aligned.ensures)
-
-pub returns-then-is_aligned : goal.returns-then-is_aligned
-returns-then-is_aligned c = sym (ap (λ (t : Bool). cond t (Access.At c.address_at-a.result) Access.Misaligned) c.if-is_aligned.true) ∙ fits_and_is c
+    (answer c.address_at-a.result _ _ _ (exact _ _ _ (bytes_in a.size) c.address_at-a.ensures (omega arith) size) c.is_aligned.ensures))
 
 pub returns : goal.returns
-returns c = sym (ap (λ (t : Bool). cond t (Access.At c.address_at-a.result) Access.Misaligned) c.if-is_aligned.false) ∙ fits_and_is c
+returns c = sym (ap (λ (t : Bool). cond t (Access.At c.address_at-a.result) Access.Misaligned) c.if-is_aligned.false) ∙ (let a = c.args in
+    let n = c.size_bytes-n in
+    let top : a.base.0 + (a.offset.0 + n.result) ≤ 2 ^ 64 = omega (arith, ltb-false, sym c.past_top.ensures ∙ c.if-past_top.false) in
+    let size = some_bytes a.size in
+    fitting _ _ _ _ (omega arith) (omega arith)
+    (answer c.address_at-a.result _ _ _ (exact _ _ _ (bytes_in a.size) c.address_at-a.ensures (omega arith) size) c.is_aligned.ensures))

@@ -9,15 +9,11 @@ use Rattle.manual.proofs.Lines.{length-encode}
 use borrow.Author.Rules.{rules}
 use Rattle.capstore.proofs.store.Goals as goal
 
--- the line lies in the RAM
-held : (c : goal.In-Ram) → c.in-Ram.at + 32 ≤ length c.args.ram.now
-held c = ram_holds _ _ _ _ _ (sym c.in-Ram.is ∙ c.place_of-place.ensures)
-
 pub overflow_add-e : goal.overflow_add-e
-overflow_add-e c = omega (arith, held c)
+overflow_add-e c = omega (arith, (ram_holds _ _ _ _ _ (sym c.in-Ram.is ∙ c.place_of-place.ensures)))
 
 pub slice_bounds-write_line-end : goal.slice_bounds-write_line-end
-slice_bounds-write_line-end c = omega (arith, held c)
+slice_bounds-write_line-end c = omega (arith, (ram_holds _ _ _ _ _ (sym c.in-Ram.is ∙ c.place_of-place.ensures)))
 
 pub returns-in-Flash : goal.returns-in-Flash
 returns-in-Flash c = rw (← sym c.in-Flash.is ∙ c.place_of-place.ensures) record { value = refl; ram_after = refl; tags_after = refl }
@@ -28,4 +24,4 @@ returns-in-Nowhere c = rw (← sym c.in-Nowhere.is ∙ c.place_of-place.ensures)
 pub returns-in-Ram : goal.returns-in-Ram
 returns-in-Ram c = let a = c.args in
     rw (← sym c.in-Ram.is ∙ c.place_of-place.ensures)
-    record { value = refl; ram_after = put_part a.ram.now _ 32 _ (encode a.c) (held c) c.write_line.ensures (length-encode a.c); tags_after = c.with_tag.ensures }
+    record { value = refl; ram_after = put_part a.ram.now _ 32 _ (encode a.c) (ram_holds _ _ _ _ _ (sym c.in-Ram.is ∙ c.place_of-place.ensures)) c.write_line.ensures (length-encode a.c); tags_after = c.with_tag.ensures }

@@ -9,10 +9,8 @@ use lib.ListN.{length, get_or}
 use borrow.Author.Tests.{eq-eqb, ne_eqb}
 use Rattle.manual.specs.Accept.{every}
 use Rattle.manual.proofs.Scans.{begins, fails, passes, ends}
+use Rattle.compose.proofs.all_zero.Invariants.{test}
 use Rattle.compose.proofs.all_zero.Goals as goal
-
-abbrev test : List ℕ → ℕ → Bool
-test bytes = λ i. eqb (get_or bytes i 0) 0
 
 pub returns-then-bytes-i-ne0 : goal.returns-then-bytes-i-ne0
 returns-then-bytes-i-ne0 c = let l = c.loop-i in

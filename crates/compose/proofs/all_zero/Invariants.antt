@@ -11,6 +11,9 @@ use Rattle.manual.specs.Accept.{every}
 use Rattle.manual.proofs.Scans.{begins, fails, passes, ends}
 use Rattle.compose.proofs.all_zero.Given as goal
 
+abbrev pub test : List ℕ → ℕ → Bool
+test bytes = λ i. eqb (get_or bytes i 0) 0
+
 abbrev pub invariant-loop-i : goal.invariant-loop-i
 invariant-loop-i l = (l.i ≤ length l.bytes) × (every (length l.bytes - l.i) l.i (test l.bytes) ≡ every (length l.bytes) 0 (test l.bytes))
 

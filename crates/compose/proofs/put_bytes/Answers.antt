@@ -14,7 +14,7 @@ pub slice_bounds-copy-end : goal.slice_bounds-copy-end
 slice_bounds-copy-end c = omega (arith, leb-true, sym c.has_room.ensures ∙ c.if-has_room.true)
 
 pub copy-requires : goal.copy-requires
-copy-requires c κs = let a = c.args in
+copy-requires c = let a = c.args in
     length_part a.out.now a.at (length a.bytes.now) (leb-true (a.at + length a.bytes.now) (length a.out.now) (sym c.has_room.ensures ∙ c.if-has_room.true))
 
 pub returns-then-has_room : goal.returns-then-has_room

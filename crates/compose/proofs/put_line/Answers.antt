@@ -11,21 +11,17 @@ use Rattle.pages.specs.Compose.{record_of, line_body}
 use Rattle.pages.proofs.Fields.{bytes_put, line_bytes_lem}
 use Rattle.compose.proofs.put_line.Goals as goal
 
--- the record ends within a buffer, so within 64 bits
-ends : (c : goal.After-put_be-arg-1) → c.args.at + (12 + length c.args.bytes.now) < 2 ^ 64
-ends c = omega (arith, leb-true, sym c.has_room.ensures ∙ c.if-has_room.true)
-
 pub overflow_add-at : goal.overflow_add-at
-overflow_add-at c = omega (arith, ends c)
+overflow_add-at c = omega (arith, leb-true, sym c.has_room.ensures ∙ c.if-has_room.true)
 
 pub overflow_add-at-then-has_room : goal.overflow_add-at-then-has_room
-overflow_add-at-then-has_room c = omega (arith, ends c)
+overflow_add-at-then-has_room c = omega (arith, leb-true, sym c.has_room.ensures ∙ c.if-has_room.true)
 
 pub overflow_add-at-then-has_room-2 : goal.overflow_add-at-then-has_room-2
-overflow_add-at-then-has_room-2 c = omega (arith, ends c)
+overflow_add-at-then-has_room-2 c = omega (arith, leb-true, sym c.has_room.ensures ∙ c.if-has_room.true)
 
 pub overflow_add-at-then-has_room-3 : goal.overflow_add-at-then-has_room-3
-overflow_add-at-then-has_room-3 c = omega (arith, ends c)
+overflow_add-at-then-has_room-3 c = omega (arith, leb-true, sym c.has_room.ensures ∙ c.if-has_room.true)
 
 pub returns-then-has_room : goal.returns-then-has_room
 unfolding line_body

@@ -35,10 +35,10 @@ returns-in-Refused c = let v = c.loop-machine.invariant in
     record { value = ap (λ (s : Start). s.machine) e; ram_after = ap (λ (s : Start). s.ram) e; tags_after = ap (λ (s : Start). s.tags) e }
 
 pub with_entry-machine-requires : goal.with_entry-machine-requires
-with_entry-machine-requires c κs = registered _ _ _ _ _ _ _ (sym c.in-More.is ∙ c.step_at-step.ensures)
+with_entry-machine-requires c = registered _ _ _ _ _ _ _ (sym c.in-More.is ∙ c.step_at-step.ensures)
 
 pub put_entry-requires : goal.put_entry-requires
-put_entry-requires c κs = there _ _ _ _ _ _ _ _ c.loop-machine.invariant.0 (sym c.in-More.is ∙ c.step_at-step.ensures)
+put_entry-requires c = there _ _ _ _ _ _ _ _ c.loop-machine.invariant.0 (sym c.in-More.is ∙ c.step_at-step.ensures)
 
 pub loop-machine-smaller : goal.loop-machine-smaller
 loop-machine-smaller c = let a = c.args in
@@ -49,5 +49,5 @@ loop-machine-smaller c = let a = c.args in
 pub loop-machine-preserved : goal.loop-machine-preserved
 loop-machine-preserved c = let v = c.loop-machine.invariant in
     let p = c.put_entry in
-    let w = goes_on v.2 _ _ _ _ _ _ _ _ _ _ _ v.3 (sym c.in-More.is ∙ c.step_at-step.ensures) c.kind_of-kind.ensures c.key_of-key.ensures (enters _ _ _ _ _ _ _ _ _ c.with_entry-machine.ensures p.ensures.0 p.ensures.1) in
-    (p.auto.1.1.1.0 ∙ v.0, p.auto.1.1.1.1.0 ∙ v.1, w.0, w.1, w.2 ∙ v.4)
+    let w = goes_on v.2 _ _ _ _ _ _ _ _ _ _ _ v.3 (sym c.in-More.is ∙ c.step_at-step.ensures) c.kind_of-kind.ensures c.key_of-key.ensures (enters _ _ _ _ _ _ _ _ _ c.with_entry-machine.ensures p.ensures.ram_after p.ensures.tags_after) in
+    (p.auto.ram ∙ v.0, p.auto.tags ∙ v.1, w.0, w.1, w.2 ∙ v.4)

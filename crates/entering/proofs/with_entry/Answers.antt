@@ -4,10 +4,10 @@ use Rattle.pages.proofs.Enters.{is_register}
 use Rattle.entering.proofs.with_entry.Goals as goal
 
 pub with_capability-requires : goal.with_capability-requires
-with_capability-requires c κs = is_register _ _ c.in-Capability.is c.requires
+with_capability-requires c = is_register _ _ c.in-Capability.is c.requires
 
 pub with_general-requires : goal.with_general-requires
-with_general-requires c κs = is_register _ _ c.in-General.is c.requires
+with_general-requires c = is_register _ _ c.in-General.is c.requires
 
 pub returns-in-Capability : goal.returns-in-Capability
 unfolding machine_with

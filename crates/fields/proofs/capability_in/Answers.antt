@@ -20,4 +20,4 @@ unfolding capability_of
 returns c = rw (eq-eqb _ _ c.if-body-ne36.false, ← c.are_fields.ensures, c.if-are_fields.false)
 
 pub cap_in-c-requires : goal.cap_in-c-requires
-cap_in-c-requires c κs = c.if-body-ne36.false
+cap_in-c-requires c = c.if-body-ne36.false

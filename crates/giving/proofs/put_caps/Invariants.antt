@@ -13,6 +13,9 @@ use Rattle.pages.proofs.RunLaws.{run_begins, run_next}
 use Rattle.pages.specs.Registers.{cap_records}
 use Rattle.giving.proofs.put_caps.Given as goal
 
+abbrev pub piece : List Cap → ℕ → List ℕ
+piece caps = λ i. record_of (cap_body i (get_or caps i null))
+
 abbrev pub invariant-loop-i : goal.invariant-loop-i
 invariant-loop-i l = (l.i ≤ 32) × Runs l.initial.out 1 (pieces l.i 0 (piece l.caps)) l.out (1 + 38 * l.i)
 

@@ -11,21 +11,16 @@ use Rattle.slide.proofs.Slides.{starts}
 use Rattle.glide.proofs.Glides.{Came, came, joins}
 use Rattle.glide.proofs.from_quiet.Goals as goal
 
--- where the run stands after the call of `slide`
-slid : (c : goal.After-slide-slid)
-    → let l = c.loop-n in
-    let a = c.args in
-    Glides a.flash.now a.g.now a.caps a.pcc Pending.Quiet a.ram.now a.tags.now (l.n + c.slide-slid.result.steps) c.slide-slid.new.g l.cs (set_offset a.pcc c.slide-slid.result.way.at) (waiting_at c.slide-slid.result.way.slot a.pcc c.slide-slid.result.way.target) c.slide-slid.new.ram c.slide-slid.new.tags
-slid c = joins _ _ _ _ _ _ _ _ _ _ _ _ _ _ _ _ _ _ _ _ _ c.loop-n.invariant.3 (c.slide-slid.ensures.slides.slides _ refl)
-
 -- and after that of `ride`
 rode : (c : goal.After-ride-rode)
     → let l = c.loop-n in
     let a = c.args in
     Came a.flash.now a.g.now a.caps a.pcc Pending.Quiet a.ram.now a.tags.now (l.n + c.slide-slid.result.steps) c.slide-slid.new.g l.cs a.pcc c.slide-slid.result.way c.ride-rode.new.ram c.ride-rode.new.tags c.ride-rode.result
-rode c =
-    let a = c.args in
+(let a = c.args in
     came _ _ _ _ _ _ _ _ _ _ a.pcc c.slide-slid.result.way _ _ c.ride-rode.new.ram c.ride-rode.new.tags (slid c) _ _ _ _ _ _
+    c.slide-slid.ensures.sees c.set_offset-here.ensures c.field_25.ensures c.field_20.ensures c.field_15.ensures c.ride-rode.result c.ride-rode.ensures) =
+    let a = c.args in
+    came _ _ _ _ _ _ _ _ _ _ a.pcc c.slide-slid.result.way _ _ c.ride-rode.new.ram c.ride-rode.new.tags (joins _ _ _ _ _ _ _ _ _ _ _ _ _ _ _ _ _ _ _ _ _ c.loop-n.invariant.3 (c.slide-slid.ensures.slides.slides _ refl)) _ _ _ _ _ _
     c.slide-slid.ensures.sees c.set_offset-here.ensures c.field_25.ensures c.field_20.ensures c.field_15.ensures c.ride-rode.result c.ride-rode.ensures
 
 pub loop-n-init : goal.loop-n-init
@@ -44,7 +39,7 @@ pub shape_of-tags-then-n-budget : goal.shape_of-tags-then-n-budget
 shape_of-tags-then-n-budget c = omega (arith, c.slide-slid.auto.tags, c.loop-n.invariant.1)
 
 pub returns-then-n-budget : goal.returns-then-n-budget
-returns-then-n-budget c = rw c.come_to.ensures record { steps_le_budget = omega (arith, c.slide-slid.ensures.steps_le_budget, c.loop-n.invariant.2); glides = slid c }
+returns-then-n-budget c = rw c.come_to.ensures record { steps_le_budget = omega (arith, c.slide-slid.ensures.steps_le_budget, c.loop-n.invariant.2); glides = (joins _ _ _ _ _ _ _ _ _ _ _ _ _ _ _ _ _ _ _ _ _ c.loop-n.invariant.3 (c.slide-slid.ensures.slides.slides _ refl)) }
 
 pub shape_of-ram-in-Other : goal.shape_of-ram-in-Other
 shape_of-ram-in-Other c = omega (arith, c.ride-rode.auto.ram, c.slide-slid.auto.ram, c.loop-n.invariant.0)
@@ -53,7 +48,9 @@ pub shape_of-tags-in-Other : goal.shape_of-tags-in-Other
 shape_of-tags-in-Other c = omega (arith, c.ride-rode.auto.tags, c.slide-slid.auto.tags, c.loop-n.invariant.1)
 
 pub returns-in-Other : goal.returns-in-Other
-returns-in-Other c = rw c.come_to-in-Other.ensures record { steps_le_budget = omega (arith, c.slide-slid.ensures.steps_le_budget, c.loop-n.invariant.2); glides = rw c.in-Other.is at (rode c) }
+returns-in-Other c = rw c.come_to-in-Other.ensures record { steps_le_budget = omega (arith, c.slide-slid.ensures.steps_le_budget, c.loop-n.invariant.2); glides = rw c.in-Other.is at (let a = c.args in
+    came _ _ _ _ _ _ _ _ _ _ a.pcc c.slide-slid.result.way _ _ c.ride-rode.new.ram c.ride-rode.new.tags (slid c) _ _ _ _ _ _
+    c.slide-slid.ensures.sees c.set_offset-here.ensures c.field_25.ensures c.field_20.ensures c.field_15.ensures c.ride-rode.result c.ride-rode.ensures) }
 
 pub overflow_add-n-in-Sets : goal.overflow_add-n-in-Sets
 overflow_add-n-in-Sets c = omega (arith, c.slide-slid.ensures.steps_le_budget, c.loop-n.invariant.2, c.if-n-budget.false, c.ranges.budget)
@@ -66,7 +63,9 @@ loop-n-preserved-in-Sets c = (
       omega (arith, c.ride-rode.auto.ram, c.slide-slid.auto.ram, c.loop-n.invariant.0),
       omega (arith, c.ride-rode.auto.tags, c.slide-slid.auto.tags, c.loop-n.invariant.1),
       omega (arith, c.slide-slid.ensures.steps_le_budget, c.loop-n.invariant.2, c.if-n-budget.false),
-      rw (c.on-way.ensures, c.kept_zero.ensures) (rw c.in-Sets.is at (rode c)),
+      rw (c.on-way.ensures, c.kept_zero.ensures) (rw c.in-Sets.is at (let a = c.args in
+    came _ _ _ _ _ _ _ _ _ _ a.pcc c.slide-slid.result.way _ _ c.ride-rode.new.ram c.ride-rode.new.tags (slid c) _ _ _ _ _ _
+    c.slide-slid.ensures.sees c.set_offset-here.ensures c.field_25.ensures c.field_20.ensures c.field_15.ensures c.ride-rode.result c.ride-rode.ensures)),
     )
 
 pub overflow_add-n-in-Puts : goal.overflow_add-n-in-Puts
@@ -80,5 +79,7 @@ loop-n-preserved c = (
       omega (arith, c.ride-rode.auto.ram, c.slide-slid.auto.ram, c.loop-n.invariant.0),
       omega (arith, c.ride-rode.auto.tags, c.slide-slid.auto.tags, c.loop-n.invariant.1),
       omega (arith, c.slide-slid.ensures.steps_le_budget, c.loop-n.invariant.2, c.if-n-budget.false),
-      rw c.on-way-in-Puts.ensures (rw c.in-Puts.is at (rode c)),
+      rw c.on-way-in-Puts.ensures (rw c.in-Puts.is at (let a = c.args in
+    came _ _ _ _ _ _ _ _ _ _ a.pcc c.slide-slid.result.way _ _ c.ride-rode.new.ram c.ride-rode.new.tags (slid c) _ _ _ _ _ _
+    c.slide-slid.ensures.sees c.set_offset-here.ensures c.field_25.ensures c.field_20.ensures c.field_15.ensures c.ride-rode.result c.ride-rode.ensures)),
     )

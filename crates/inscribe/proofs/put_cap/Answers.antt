@@ -11,39 +11,35 @@ use Rattle.pages.specs.Compose.{record_of, cap_body}
 use Rattle.pages.proofs.Fields.{after, told, record_put, cap_bytes_lem}
 use Rattle.inscribe.proofs.put_cap.Goals as goal
 
--- the record ends within a buffer, so within 64 bits
-ends : (c : goal.After-put_be-arg-1) → c.args.at + 38 < 2 ^ 64
-ends c = omega (arith, leb-true, sym c.has_room.ensures ∙ c.if-has_room.true)
-
 pub overflow_add-at : goal.overflow_add-at
-overflow_add-at c = omega (arith, ends c)
+overflow_add-at c = omega (arith, leb-true, sym c.has_room.ensures ∙ c.if-has_room.true)
 
 pub overflow_add-at-then-has_room : goal.overflow_add-at-then-has_room
-overflow_add-at-then-has_room c = omega (arith, ends c)
+overflow_add-at-then-has_room c = omega (arith, leb-true, sym c.has_room.ensures ∙ c.if-has_room.true)
 
 pub overflow_add-at-then-has_room-2 : goal.overflow_add-at-then-has_room-2
-overflow_add-at-then-has_room-2 c = omega (arith, ends c)
+overflow_add-at-then-has_room-2 c = omega (arith, leb-true, sym c.has_room.ensures ∙ c.if-has_room.true)
 
 pub overflow_add-at-then-has_room-3 : goal.overflow_add-at-then-has_room-3
-overflow_add-at-then-has_room-3 c = omega (arith, ends c)
+overflow_add-at-then-has_room-3 c = omega (arith, leb-true, sym c.has_room.ensures ∙ c.if-has_room.true)
 
 pub overflow_add-at-then-has_room-4 : goal.overflow_add-at-then-has_room-4
-overflow_add-at-then-has_room-4 c = omega (arith, ends c)
+overflow_add-at-then-has_room-4 c = omega (arith, leb-true, sym c.has_room.ensures ∙ c.if-has_room.true)
 
 pub overflow_add-at-then-has_room-5 : goal.overflow_add-at-then-has_room-5
-overflow_add-at-then-has_room-5 c = omega (arith, ends c)
+overflow_add-at-then-has_room-5 c = omega (arith, leb-true, sym c.has_room.ensures ∙ c.if-has_room.true)
 
 pub overflow_add-at-then-has_room-6 : goal.overflow_add-at-then-has_room-6
-overflow_add-at-then-has_room-6 c = omega (arith, ends c)
+overflow_add-at-then-has_room-6 c = omega (arith, leb-true, sym c.has_room.ensures ∙ c.if-has_room.true)
 
 pub overflow_add-at-then-has_room-7 : goal.overflow_add-at-then-has_room-7
-overflow_add-at-then-has_room-7 c = omega (arith, ends c)
+overflow_add-at-then-has_room-7 c = omega (arith, leb-true, sym c.has_room.ensures ∙ c.if-has_room.true)
 
 pub overflow_add-at-then-has_room-8 : goal.overflow_add-at-then-has_room-8
-overflow_add-at-then-has_room-8 c = omega (arith, ends c)
+overflow_add-at-then-has_room-8 c = omega (arith, leb-true, sym c.has_room.ensures ∙ c.if-has_room.true)
 
 pub overflow_add-at-then-has_room-9 : goal.overflow_add-at-then-has_room-9
-overflow_add-at-then-has_room-9 c = omega (arith, ends c)
+overflow_add-at-then-has_room-9 c = omega (arith, leb-true, sym c.has_room.ensures ∙ c.if-has_room.true)
 
 pub returns-then-has_room : goal.returns-then-has_room
 unfolding cap_body
@@ -64,7 +60,7 @@ returns-then-has_room c = let a = c.args in
     (leb-true (a.at + 38) (length a.out.now) (sym c.has_room.ensures ∙ c.if-has_room.true))
 
 pub shape_of-out : goal.shape_of-out
-shape_of-out c = ap length (returns c) ∙ length-put _ _ _
+shape_of-out c = ap length (returns-then-has_room c) ∙ length-put _ _ _
 
 pub returns-else-has_room : goal.returns-else-has_room
 returns-else-has_room c = let a = c.args in

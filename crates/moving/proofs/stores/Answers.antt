@@ -1,3 +1,4 @@
+use Rattle.manual.specs.declared.Size.{Size}
 use borrow.Author.Rules.{rules}
 use Rattle.manual.specs.Plan.{plan_of}
 use Rattle.moving.proofs.Laws.{store_amounts}
@@ -6,7 +7,7 @@ use Rattle.moving.proofs.stores.Goals as goal
 pub returns-in-Eight : goal.returns-in-Eight
 unfolding plan_of
 returns-in-Eight c = rw (c.in-Store.is, c.in-Eight.is, c.puts_stored.ensures, c.stored.ensures.value, c.stored.ensures.ram_after, c.stored.ensures.tags_after)
-    (λ o ev ep ec eg. store_amounts o _ _ _ _ _ _ _ _ _ _ _ (rw (ep, ev, ec, eg)) (c.reached-at.ensures c.args.pcc _ c.register_open-opens.ensures))
+    (λ o ev ep ec eg. store_amounts o _ _ _ _ Size.Eight c.in-Store.x c.args.value c.args.pcc c.args.cb c.args.rt _ (rw (ep, ev, ec, eg)) (c.reached-at.ensures c.args.pcc _ c.register_open-opens.ensures))
 
 pub returns-in_default-size : goal.returns-in_default-size
 unfolding plan_of

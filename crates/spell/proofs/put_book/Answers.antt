@@ -9,22 +9,18 @@ use Rattle.spell.proofs.put_book.Goals as goal
 
 pub returns-then-not-sizes_fit : goal.returns-then-not-sizes_fit
 returns-then-not-sizes_fit c = let a = c.args in
-    no_book a.m a.ram.now a.tags.now a.out.now (sym c.sizes_fit.ensures ∙ not-true c.sizes_fit.result c.if-not-sizes_fit.true)
-
--- the sizes are legal
-legal : (c : goal.After-spell_all-arg-1) → sizes_fit 0 (length c.args.ram.now) (length c.args.tags.now) ≡ true
-legal c = sym c.sizes_fit.ensures ∙ not-false c.sizes_fit.result c.if-not-sizes_fit.false
+    no_book a.m a.ram.now a.tags.now a.out.now (sym c.sizes_fit.ensures ∙ c.if-not-sizes_fit.true)
 
 pub returns-then-bytes-out : goal.returns-then-bytes-out
 returns-then-bytes-out c = let a = c.args in
-    spelled a.m a.ram.now a.tags.now a.out.now (legal c) _ _ c.spell_all-bytes.ensures _ _ c.if-bytes-out.true c.spell_all.ensures
+    spelled a.m a.ram.now a.tags.now a.out.now (sym c.sizes_fit.ensures ∙ c.if-not-sizes_fit.false) _ _ c.spell_all-bytes.ensures _ _ c.if-bytes-out.true c.spell_all.ensures
 
 pub returns-else-bytes-out : goal.returns-else-bytes-out
 returns-else-bytes-out c = let a = c.args in
-    no_room a.m a.ram.now a.tags.now a.out.now (legal c) _ _ c.spell_all-bytes.ensures c.if-bytes-out.false
+    no_room a.m a.ram.now a.tags.now a.out.now (sym c.sizes_fit.ensures ∙ c.if-not-sizes_fit.false) _ _ c.spell_all-bytes.ensures c.if-bytes-out.false
 
 pub spell_all-bytes-requires : goal.spell_all-bytes-requires
-spell_all-bytes-requires c κs = legal c
+spell_all-bytes-requires c = (sym c.sizes_fit.ensures ∙ c.if-not-sizes_fit.false)
 
 pub spell_all-requires : goal.spell_all-requires
-spell_all-requires c κs = legal c
+spell_all-requires c = (sym c.sizes_fit.ensures ∙ c.if-not-sizes_fit.false)

@@ -4,13 +4,9 @@ use lib.ListN.{length}
 use Rattle.pages.proofs.Books.{pcc_end, generals_end, lines_there, book_runs}
 use Rattle.spell.proofs.spell_all.Goals as goal
 
--- where the registers' records end
-named : (c : goal.After-slice_known-4-1) → c.spell_caps-named.result + c.name_cap.result ≤ 1255
-named c = pcc_end _ _ _ _ _ _ _ c.spell_caps-named.ensures c.name_cap.ensures.value
-
 pub spell_lines-requires : goal.spell_lines-requires
-spell_lines-requires c κs = let p = lines_there (length c.args.ram.now) (length c.args.tags.now) c.requires in
-    (p.0, p.1, omega (arith, generals_end _ _ _ _ _ c.spell_generals-registers.ensures, named c))
+spell_lines-requires c = let p = lines_there (length c.args.ram.now) (length c.args.tags.now) c.requires in
+    (p.0, p.1, omega (arith, generals_end _ _ _ _ _ c.spell_generals-registers.ensures, (pcc_end _ _ _ _ _ _ _ c.spell_caps-named.ensures c.name_cap.ensures.value)))
 
 pub returns : goal.returns
 returns c = let a = c.args in
@@ -19,13 +15,13 @@ returns c = let a = c.args in
     c.spell_generals-registers.ensures c.spell_lines.ensures
 
 pub spell_caps-named-requires : goal.spell_caps-named-requires
-spell_caps-named-requires c κs = omega arith
+spell_caps-named-requires c = omega arith
 
 pub overflow_add-all : goal.overflow_add-all
-overflow_add-all c = omega (arith, named c)
+overflow_add-all c = omega (arith, (pcc_end _ _ _ _ _ _ _ c.spell_caps-named.ensures c.name_cap.ensures.value))
 
 pub spell_generals-registers-requires : goal.spell_generals-registers-requires
-spell_generals-registers-requires c κs = omega (arith, named c)
+spell_generals-registers-requires c = omega (arith, (pcc_end _ _ _ _ _ _ _ c.spell_caps-named.ensures c.name_cap.ensures.value))
 
 pub shape_of-out : goal.shape_of-out
 shape_of-out c = (returns c).kept

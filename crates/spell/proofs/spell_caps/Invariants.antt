@@ -13,6 +13,9 @@ use Rattle.pages.proofs.RunLaws.{run_begins, run_next, run_all, run_ends}
 use Rattle.pages.specs.Spell.{cap_pieces}
 use Rattle.spell.proofs.spell_caps.Given as goal
 
+abbrev pub piece : List Cap → ℕ → List ℕ
+piece caps = λ i. cap_piece i (get_or caps i null)
+
 abbrev pub invariant-loop-i : goal.invariant-loop-i
 invariant-loop-i l = (l.i ≤ 32) × Runs l.initial.out l.at (pieces l.i 0 (piece l.caps)) l.out l.end
 

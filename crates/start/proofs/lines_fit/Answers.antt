@@ -7,10 +7,8 @@ use borrow.Author.Rules.{rules}
 use lib.ListN.{length}
 use Rattle.manual.specs.Accept.{every, line_fits}
 use Rattle.manual.proofs.Scans.{begins, fails, passes, ends}
+use Rattle.start.proofs.lines_fit.Invariants.{test}
 use Rattle.start.proofs.lines_fit.Goals as goal
-
-abbrev test : List ℕ → List ℕ → ℕ → Bool
-test ram tags = line_fits ram tags
 
 pub returns-else-line_fits : goal.returns-else-line_fits
 returns-else-line_fits c = let l = c.loop-i in

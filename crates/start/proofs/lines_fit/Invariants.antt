@@ -9,6 +9,9 @@ use Rattle.manual.specs.Accept.{every, line_fits}
 use Rattle.manual.proofs.Scans.{begins, fails, passes, ends}
 use Rattle.start.proofs.lines_fit.Given as goal
 
+abbrev pub test : List ℕ → List ℕ → ℕ → Bool
+test ram tags = line_fits ram tags
+
 abbrev pub invariant-loop-i : goal.invariant-loop-i
 invariant-loop-i l = (l.i ≤ length l.tags) × (every (length l.tags - l.i) l.i (test l.ram l.tags) ≡ every (length l.tags) 0 (test l.ram l.tags))
 

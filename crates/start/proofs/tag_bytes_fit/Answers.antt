@@ -9,10 +9,8 @@ use lib.ListN.{length, get_or}
 use borrow.Author.Tests.{lt-ltb, le-ltb}
 use Rattle.manual.specs.Accept.{every}
 use Rattle.manual.proofs.Scans.{begins, fails, passes, ends}
+use Rattle.start.proofs.tag_bytes_fit.Invariants.{test}
 use Rattle.start.proofs.tag_bytes_fit.Goals as goal
-
-abbrev test : List ℕ → ℕ → Bool
-test tags = λ i. not (ltb 1 (get_or tags i 0))
 
 pub returns-then-tags-i-gt1 : goal.returns-then-tags-i-gt1
 returns-then-tags-i-gt1 c = let l = c.loop-i in

@@ -11,6 +11,9 @@ use Rattle.manual.specs.Accept.{every}
 use Rattle.manual.proofs.Scans.{begins, fails, passes, ends}
 use Rattle.start.proofs.tag_bytes_fit.Given as goal
 
+abbrev pub test : List ℕ → ℕ → Bool
+test tags = λ i. not (ltb 1 (get_or tags i 0))
+
 abbrev pub invariant-loop-i : goal.invariant-loop-i
 invariant-loop-i l = (l.i ≤ length l.tags) × (every (length l.tags - l.i) l.i (test l.tags) ≡ every (length l.tags) 0 (test l.tags))
 

@@ -11,6 +11,9 @@ use Rattle.manual.specs.Accept.{every, width_fits}
 use Rattle.manual.proofs.Scans.{begins, fails, passes, ends}
 use Rattle.start.proofs.widths_fit.Given as goal
 
+abbrev pub test : List Cap → ℕ → Bool
+test caps = λ i. width_fits (get_or caps i null)
+
 abbrev pub invariant-loop-i : goal.invariant-loop-i
 invariant-loop-i l = (l.i ≤ 32) × (every (32 - l.i) l.i (test l.caps) ≡ every (32) 0 (test l.caps))
 

@@ -9,11 +9,8 @@ use Rattle.manual.specs.Steps.{Result, turn_at, ram_at, tags_at, run_from}
 use Rattle.slide.specs.Slide.{holding}
 use Rattle.manual.proofs.Runs.{turn_is, ram_is, tags_is, on, off, done, first}
 use Rattle.glide.proofs.Glides.{along}
+use Rattle.steps.proofs.go.Invariants.{left}
 use Rattle.steps.proofs.go.Goals as goal
-
--- a try of the shorter way at a place may make no step, and is not made there again
-abbrev left : ℕ → ℕ → Bool → ℕ
-left budget n fresh = (budget - n) + (budget - n) + bit fresh
 
 tried : (b n s : ℕ) (fresh light r : Bool) → r ≡ (fresh && light) → r ≡ true → left b (n + s) false < left b n fresh
 tried b n s true light r e h = omega arith
@@ -22,27 +19,6 @@ tried b n s false light r e h = let z : ◌≡◌ {A = ℕ} 0 1 = cc in absurd (
 stepped : (b n : ℕ) (fresh : Bool) → n < b → left b (n + 1) true < left b n fresh
 stepped b n true h = omega arith
 stepped b n false h = omega arith
-
--- what the call of `turn` answers is the machine's turn
-turned : (c : goal.After-turn-turn)
-    → let l = c.loop-n in
-    let flash = c.args.flash.now in
-    let m = holding l.g l.cs l.pcc l.pending l.cause in
-    (c.turn-turn.result ≡ turn_at flash m l.ram l.tags) × (c.turn-turn.new.ram ≡ ram_at flash m l.ram) × (c.turn-turn.new.tags ≡ tags_at flash m l.ram l.tags)
-turned c =
-    let l = c.loop-n in
-    let flash = c.args.flash.now in
-    let m = holding l.g l.cs l.pcc l.pending l.cause in
-    let f = c.fetch-fetched.ensures in
-    let fw = c.word_of-w.ensures in
-    let f25 = c.field_25.ensures in
-    let f20 = c.field_20.ensures in
-    let f15 = c.field_15.ensures in
-    let f10 = c.field_10.ensures in (
-      turn_is flash l.ram l.tags m _ _ _ _ _ _ f fw f25 f20 f15 f10 _ c.turn-turn.ensures.value,
-      ram_is flash l.ram l.tags m _ _ _ _ _ _ f fw f25 f20 f15 f10 _ c.turn-turn.ensures.ram_after,
-      tags_is flash l.ram l.tags m _ _ _ _ _ _ f fw f25 f20 f15 f10 _ c.turn-turn.ensures.tags_after,
-    )
 
 pub loop-n-init : goal.loop-n-init
 loop-n-init c = (refl, refl, omega arith, first _ _ _ _ _)
@@ -71,7 +47,19 @@ pub shape_of-tags-in-Stops : goal.shape_of-tags-in-Stops
 shape_of-tags-in-Stops c = omega (arith, c.turn-turn.auto.tags, c.loop-n.invariant.1)
 
 pub returns-in-Stops : goal.returns-in-Stops
-returns-in-Stops c = let t = turned c in
+returns-in-Stops c = let t = (let l = c.loop-n in
+    let flash = c.args.flash.now in
+    let m = holding l.g l.cs l.pcc l.pending l.cause in
+    let f = c.fetch-fetched.ensures in
+    let fw = c.word_of-w.ensures in
+    let f25 = c.field_25.ensures in
+    let f20 = c.field_20.ensures in
+    let f15 = c.field_15.ensures in
+    let f10 = c.field_10.ensures in (
+      turn_is flash l.ram l.tags m _ _ _ _ _ _ f fw f25 f20 f15 f10 _ c.turn-turn.ensures.value,
+      ram_is flash l.ram l.tags m _ _ _ _ _ _ f fw f25 f20 f15 f10 _ c.turn-turn.ensures.ram_after,
+      tags_is flash l.ram l.tags m _ _ _ _ _ _ f fw f25 f20 f15 f10 _ c.turn-turn.ensures.tags_after,
+    )) in
     let e = off _ _ _ _ _ _ c.loop-n-test.true _ _ _ _ (sym c.in-Stops.is ∙ t.0) t.1 t.2 c.stopped.ensures ∙ c.loop-n.invariant.3 in
     record { value = ap (λ (r : Result). r.outcome) e; ram_after = ap (λ (r : Result). r.ram) e; tags_after = ap (λ (r : Result). r.tags) e }
 
@@ -82,7 +70,19 @@ pub loop-n-smaller : goal.loop-n-smaller
 loop-n-smaller c = stepped _ _ c.loop-n.fresh c.loop-n-test.true
 
 pub loop-n-preserved : goal.loop-n-preserved
-loop-n-preserved c = let t = turned c in (
+loop-n-preserved c = let t = (let l = c.loop-n in
+    let flash = c.args.flash.now in
+    let m = holding l.g l.cs l.pcc l.pending l.cause in
+    let f = c.fetch-fetched.ensures in
+    let fw = c.word_of-w.ensures in
+    let f25 = c.field_25.ensures in
+    let f20 = c.field_20.ensures in
+    let f15 = c.field_15.ensures in
+    let f10 = c.field_10.ensures in (
+      turn_is flash l.ram l.tags m _ _ _ _ _ _ f fw f25 f20 f15 f10 _ c.turn-turn.ensures.value,
+      ram_is flash l.ram l.tags m _ _ _ _ _ _ f fw f25 f20 f15 f10 _ c.turn-turn.ensures.ram_after,
+      tags_is flash l.ram l.tags m _ _ _ _ _ _ f fw f25 f20 f15 f10 _ c.turn-turn.ensures.tags_after,
+    )) in (
       omega (arith, c.turn-turn.auto.ram, c.loop-n.invariant.0),
       omega (arith, c.turn-turn.auto.tags, c.loop-n.invariant.1),
       omega (arith, c.loop-n-test.true),

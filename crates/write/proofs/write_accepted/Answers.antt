@@ -8,17 +8,13 @@ use Rattle.write.proofs.write_accepted.Goals as goal
 
 pub returns-then-not-both : goal.returns-then-not-both
 returns-then-not-both c = let a = c.args in
-    let w = waits a.m a.ram.now a.tags.now a.out.now (rw (← c.is_pending.ensures, ← c.both.ensures) (not-true c.both.result c.if-not-both.true)) in
+    let w = waits a.m a.ram.now a.tags.now a.out.now (rw (← c.is_pending.ensures, ← c.both.ensures) (c.if-not-both.true)) in
     record { value = ap (λ (s : Result). s.written) w; out_after = ap (λ (s : Result). s.out) w }
 
--- nothing is pending and the cause is 0
-resting : (c : goal.After-put_book-arg-1) → rests c.args.m ≡ true
-resting c = rw (← c.is_pending.ensures, ← c.both.ensures) (not-false c.both.result c.if-not-both.false)
-
 pub returns-then-out-bytes : goal.returns-then-out-bytes
-returns-then-out-bytes c = let w = no_room c.args.m c.args.ram.now c.args.tags.now c.args.out.now c.requires (resting c) _ _ c.put_book-bytes.ensures c.if-out-bytes.true in
+returns-then-out-bytes c = let w = no_room c.args.m c.args.ram.now c.args.tags.now c.args.out.now c.requires (rw (← c.is_pending.ensures, ← c.both.ensures) (c.if-not-both.false)) _ _ c.put_book-bytes.ensures c.if-out-bytes.true in
     record { value = ap (λ (c : Result). c.written) w; out_after = ap (λ (c : Result). c.out-1) w }
 
 pub returns : goal.returns
-returns c = let w = written c.args.m c.args.ram.now c.args.tags.now c.args.out.now c.requires (resting c) _ _ c.put_book-bytes.ensures c.if-out-bytes.false in
+returns c = let w = written c.args.m c.args.ram.now c.args.tags.now c.args.out.now c.requires (rw (← c.is_pending.ensures, ← c.both.ensures) (c.if-not-both.false)) _ _ c.put_book-bytes.ensures c.if-out-bytes.false in
     record { value = ap (λ (c : Result). c.written) w; out_after = ap (λ (c : Result). c.out-1) w }

@@ -5,7 +5,7 @@ use Rattle.manual.proofs.Accepted.{sizes_fit_lem}
 use Rattle.write.proofs.write_book.Goals as goal
 
 pub write_accepted-requires : goal.write_accepted-requires
-write_accepted-requires c κs = sizes_fit_lem _ _ _ _ _ _ _ (sym c.in-Accepted.is ∙ c.accept-verdict.ensures)
+write_accepted-requires c = sizes_fit_lem _ _ _ _ _ _ _ (sym c.in-Accepted.is ∙ c.accept-verdict.ensures)
 
 pub returns-in-Refused : goal.returns-in-Refused
 unfolding write_book
