@@ -4,7 +4,9 @@
 // what reading exactly its bytes gives. All but REFUSAL and LENGTH are checksums, as second/src/generate/answers.rs says.
 #![tactic(auto)]
 
-ghost use Rattle.std.specs.Prelude.{◌≡◌, length};
+ghost use Rattle.std.specs.Prelude.{◌≡◌, length, OnOk};
+ghost use Rattle.std.specs.Io.KnownBytes.{Appends};
+ghost use Rattle.tables.specs.Lines.{printed};
 
 use manual::Written;
 use pages::Started;
@@ -28,7 +30,9 @@ const READ: u8 = 2;
 const FIRST: usize = 1;
 
 // A number in decimal, and a byte after it.
-fn print<W: Write>(to: &mut W, n: u64, end: u8) -> io::Result<()> {
+fn print<W: Write>(to: &mut W, n: u64, end: u8) -> io::Result<()>
+    ensures { OnOk result (Appends (W.contents to.old) (W.contents to.new) (printed n end)) }
+{
     write!(to, "{n}")?;
     to.write_all(&[end])
 }

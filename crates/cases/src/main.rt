@@ -3,7 +3,9 @@
 // STEPS MACHINE RAM TAGS, the last three checksums, as second/src/generate/answers.rs says.
 #![tactic(auto)]
 
-ghost use Rattle.std.specs.Prelude.{◌≡◌, length};
+ghost use Rattle.std.specs.Prelude.{◌≡◌, length, OnOk};
+ghost use Rattle.std.specs.Io.KnownBytes.{Appends};
+ghost use Rattle.tables.specs.Lines.{printed};
 
 use manual::Outcome;
 use std::io;
@@ -21,7 +23,9 @@ const TAGS: usize = 2_080;
 const MACHINE: usize = 5;
 
 // A number in decimal, and a byte after it.
-fn print<W: Write>(to: &mut W, n: u64, end: u8) -> io::Result<()> {
+fn print<W: Write>(to: &mut W, n: u64, end: u8) -> io::Result<()>
+    ensures { OnOk result (Appends (W.contents to.old) (W.contents to.new) (printed n end)) }
+{
     write!(to, "{n}")?;
     to.write_all(&[end])
 }

@@ -2,8 +2,10 @@
 // place, steps (01, "Bench examples").
 #![tactic(auto)]
 
-ghost use Rattle.std.specs.Prelude.{◌≡◌, length};
+ghost use Rattle.std.specs.Prelude.{◌≡◌, length, OnOk, ◌∷◌, []};
 ghost use Rattle.std.specs.Counts.{IsPrefixLen};
+ghost use Rattle.std.specs.Io.KnownBytes.{Appends};
+ghost use Rattle.tables.specs.Lines.{printed, line};
 
 use asked::{BENCH_RAM, BENCH_TAGS, FILE_MOST};
 use manual::Answer;
@@ -30,12 +32,17 @@ fn read_file<R: Files>(rt: &R, path: &str, space: &mut [u8]) -> usize
     }
 }
 
-fn print<W: Write>(to: &mut W, n: u64, end: u8) -> io::Result<()> {
+fn print<W: Write>(to: &mut W, n: u64, end: u8) -> io::Result<()>
+    ensures { OnOk result (Appends (W.contents to.old) (W.contents to.new) (printed n end)) }
+{
     write!(to, "{n}")?;
     to.write_all(&[end])
 }
 
-fn print_line<W: Write>(to: &mut W, a: Answer) -> io::Result<()> {
+fn print_line<W: Write>(to: &mut W, a: Answer) -> io::Result<()>
+    ensures { OnOk result (Appends (W.contents to.old) (W.contents to.new)
+        (line (a.stop ∷ a.cause ∷ a.register ∷ a.place ∷ a.steps ∷ []))) }
+{
     print(to, a.stop as u64, b' ')?;
     print(to, a.cause as u64, b' ')?;
     print(to, a.register as u64, b' ')?;

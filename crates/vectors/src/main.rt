@@ -2,7 +2,9 @@
 // (`second-cases 1 3000 OUT bench`): of each case a length of 4 bytes and its body, laid out as second/src/generate/format.rs says.
 #![tactic(auto)]
 
-ghost use Rattle.std.specs.Prelude.{◌≡◌, length};
+ghost use Rattle.std.specs.Prelude.{◌≡◌, length, OnOk, ◌∷◌, []};
+ghost use Rattle.std.specs.Io.KnownBytes.{Appends};
+ghost use Rattle.tables.specs.Lines.{printed, line};
 
 use asked::{BENCH_RAM, BENCH_TAGS};
 use manual::Answer;
@@ -18,12 +20,17 @@ const SPACE: usize = 131_072;
 const BOOK: usize = 1;
 
 // A number in decimal, and a byte after it.
-fn print<W: Write>(to: &mut W, n: u64, end: u8) -> io::Result<()> {
+fn print<W: Write>(to: &mut W, n: u64, end: u8) -> io::Result<()>
+    ensures { OnOk result (Appends (W.contents to.old) (W.contents to.new) (printed n end)) }
+{
     write!(to, "{n}")?;
     to.write_all(&[end])
 }
 
-fn print_line<W: Write>(to: &mut W, a: Answer) -> io::Result<()> {
+fn print_line<W: Write>(to: &mut W, a: Answer) -> io::Result<()>
+    ensures { OnOk result (Appends (W.contents to.old) (W.contents to.new)
+        (line (a.stop ∷ a.cause ∷ a.register ∷ a.place ∷ a.steps ∷ []))) }
+{
     print(to, a.stop as u64, b' ')?;
     print(to, a.cause as u64, b' ')?;
     print(to, a.register as u64, b' ')?;

@@ -2,7 +2,9 @@
 // 65,536 in all; a word's line is six numbers, WORD NUMBER SUB FLAG IMMEDIATE JUMP, 0 for what an instruction lacks.
 #![tactic(auto)]
 
-ghost use Rattle.std.specs.Prelude.{◌/◌, ◌<◌, length};
+ghost use Rattle.std.specs.Prelude.{◌/◌, ◌<◌, length, OnOk};
+ghost use Rattle.std.specs.Io.KnownBytes.{Appends};
+ghost use Rattle.tables.specs.Lines.{printed};
 
 use manual::Instr;
 use std::io;
@@ -53,7 +55,9 @@ fn immediate(i: Instr) -> u64 {
 }
 
 // A number in decimal, and a byte after it.
-fn print<W: Write>(to: &mut W, n: u64, end: u8) -> io::Result<()> {
+fn print<W: Write>(to: &mut W, n: u64, end: u8) -> io::Result<()>
+    ensures { OnOk result (Appends (W.contents to.old) (W.contents to.new) (printed n end)) }
+{
     write!(to, "{n}")?;
     to.write_all(&[end])
 }
