@@ -2,10 +2,11 @@
 // place, steps (01, "Bench examples").
 #![tactic(auto)]
 
-ghost use Rattle.std.specs.Prelude.{◌≡◌, length, OnOk, ◌∷◌, []};
+ghost use Rattle.std.specs.Prelude.{◌≡◌, length, replicate, OnOk};
 ghost use Rattle.std.specs.Counts.{IsPrefixLen};
 ghost use Rattle.std.specs.Io.KnownBytes.{Appends};
-ghost use Rattle.tables.specs.Lines.{printed, line};
+ghost use Rattle.pages.specs.Bench.{bench_of};
+ghost use Rattle.tables.specs.Lines.{printed, answer_line};
 
 use asked::{BENCH_RAM, BENCH_TAGS, FILE_MOST};
 use manual::Answer;
@@ -40,8 +41,7 @@ fn print<W: Write>(to: &mut W, n: u64, end: u8) -> io::Result<()>
 }
 
 fn print_line<W: Write>(to: &mut W, a: Answer) -> io::Result<()>
-    ensures { OnOk result (Appends (W.contents to.old) (W.contents to.new)
-        (line (a.stop ∷ a.cause ∷ a.register ∷ a.place ∷ a.steps ∷ []))) }
+    ensures { OnOk result (Appends (W.contents to.old) (W.contents to.new) (answer_line a)) }
 {
     print(to, a.stop as u64, b' ')?;
     print(to, a.cause as u64, b' ')?;
@@ -50,18 +50,24 @@ fn print_line<W: Write>(to: &mut W, a: Answer) -> io::Result<()>
     print(to, a.steps as u64, b'\n')
 }
 
+// The bench's line of a book and a flash.
+fn print_bench<W: Write>(to: &mut W, book: &[u8], flash: &[u8]) -> io::Result<()>
+    ensures { OnOk result (Appends (W.contents to.old) (W.contents to.new)
+        (answer_line (bench_of book.now flash.now (replicate 32768 0) (replicate 1024 0)).answer)) }
+{
+    let mut ram = [0; BENCH_RAM];
+    let mut tags = [0; BENCH_TAGS];
+    print_line(to, answer::bench(book, flash, &mut ram, &mut tags))
+}
+
 fn main(rt: HostRuntime) -> io::Result<()> {
     let mut book = space();
     let book_length = read_file(&rt, "start.book", &mut book);
     let mut flash = space();
     let flash_length = read_file(&rt, "flash.bin", &mut flash);
-    let mut ram = [0; BENCH_RAM];
-    let mut tags = [0; BENCH_TAGS];
-    let a = answer::bench(
+    print_bench(
+        &mut io::writer(&rt),
         &book[..book_length],
         &flash[..flash_length],
-        &mut ram,
-        &mut tags,
-    );
-    print_line(&mut io::writer(&rt), a)
+    )
 }

@@ -2,9 +2,10 @@
 // (`second-cases 1 3000 OUT bench`): of each case a length of 4 bytes and its body, laid out as second/src/generate/format.rs says.
 #![tactic(auto)]
 
-ghost use Rattle.std.specs.Prelude.{◌≡◌, length, OnOk, ◌∷◌, []};
+ghost use Rattle.std.specs.Prelude.{◌≡◌, length, replicate, OnOk};
 ghost use Rattle.std.specs.Io.KnownBytes.{Appends};
-ghost use Rattle.tables.specs.Lines.{printed, line};
+ghost use Rattle.pages.specs.Bench.{bench_of};
+ghost use Rattle.tables.specs.Lines.{printed, answer_line};
 
 use asked::{BENCH_RAM, BENCH_TAGS};
 use manual::Answer;
@@ -28,8 +29,7 @@ fn print<W: Write>(to: &mut W, n: u64, end: u8) -> io::Result<()>
 }
 
 fn print_line<W: Write>(to: &mut W, a: Answer) -> io::Result<()>
-    ensures { OnOk result (Appends (W.contents to.old) (W.contents to.new)
-        (line (a.stop ∷ a.cause ∷ a.register ∷ a.place ∷ a.steps ∷ []))) }
+    ensures { OnOk result (Appends (W.contents to.old) (W.contents to.new) (answer_line a)) }
 {
     print(to, a.stop as u64, b' ')?;
     print(to, a.cause as u64, b' ')?;
@@ -38,7 +38,10 @@ fn print_line<W: Write>(to: &mut W, a: Answer) -> io::Result<()>
     print(to, a.steps as u64, b'\n')
 }
 
-fn run<W: Write>(to: &mut W, book: &[u8], flash: &[u8]) -> io::Result<()> {
+fn run<W: Write>(to: &mut W, book: &[u8], flash: &[u8]) -> io::Result<()>
+    ensures { OnOk result (Appends (W.contents to.old) (W.contents to.new)
+        (answer_line (bench_of book.now flash.now (replicate 32768 0) (replicate 1024 0)).answer)) }
+{
     let mut ram = [0; BENCH_RAM];
     let mut tags = [0; BENCH_TAGS];
     print_line(to, answer::bench(book, flash, &mut ram, &mut tags))
