@@ -11,18 +11,6 @@ use Rattle.slide.proofs.Slides.{starts}
 use Rattle.glide.proofs.Glides.{Came, came, joins}
 use Rattle.glide.proofs.from_quiet.Goals as goal
 
--- and after that of `ride`
-rode : (c : goal.After-ride-rode)
-    → let l = c.loop-n in
-    let a = c.args in
-    Came a.flash.now a.g.now a.caps a.pcc Pending.Quiet a.ram.now a.tags.now (l.n + c.slide-slid.result.steps) c.slide-slid.new.g l.cs a.pcc c.slide-slid.result.way c.ride-rode.new.ram c.ride-rode.new.tags c.ride-rode.result
-(let a = c.args in
-    came _ _ _ _ _ _ _ _ _ _ a.pcc c.slide-slid.result.way _ _ c.ride-rode.new.ram c.ride-rode.new.tags (slid c) _ _ _ _ _ _
-    c.slide-slid.ensures.sees c.set_offset-here.ensures c.field_25.ensures c.field_20.ensures c.field_15.ensures c.ride-rode.result c.ride-rode.ensures) =
-    let a = c.args in
-    came _ _ _ _ _ _ _ _ _ _ a.pcc c.slide-slid.result.way _ _ c.ride-rode.new.ram c.ride-rode.new.tags (joins _ _ _ _ _ _ _ _ _ _ _ _ _ _ _ _ _ _ _ _ _ c.loop-n.invariant.3 (c.slide-slid.ensures.slides.slides _ refl)) _ _ _ _ _ _
-    c.slide-slid.ensures.sees c.set_offset-here.ensures c.field_25.ensures c.field_20.ensures c.field_15.ensures c.ride-rode.result c.ride-rode.ensures
-
 pub loop-n-init : goal.loop-n-init
 loop-n-init c = (refl, refl, omega arith, starts _ _ _ _ _ _ _)
 
@@ -48,8 +36,7 @@ pub shape_of-tags-in-Other : goal.shape_of-tags-in-Other
 shape_of-tags-in-Other c = omega (arith, c.ride-rode.auto.tags, c.slide-slid.auto.tags, c.loop-n.invariant.1)
 
 pub returns-in-Other : goal.returns-in-Other
-returns-in-Other c = rw c.come_to-in-Other.ensures record { steps_le_budget = omega (arith, c.slide-slid.ensures.steps_le_budget, c.loop-n.invariant.2); glides = rw c.in-Other.is at (let a = c.args in
-    came _ _ _ _ _ _ _ _ _ _ a.pcc c.slide-slid.result.way _ _ c.ride-rode.new.ram c.ride-rode.new.tags (slid c) _ _ _ _ _ _
+returns-in-Other c = rw c.come_to-in-Other.ensures record { steps_le_budget = omega (arith, c.slide-slid.ensures.steps_le_budget, c.loop-n.invariant.2); glides = rw c.in-Other.is at (came _ _ _ _ _ _ _ _ _ _ c.args.pcc c.slide-slid.result.way _ _ c.ride-rode.new.ram c.ride-rode.new.tags (joins _ _ _ _ _ _ _ _ _ _ _ _ _ _ _ _ _ _ _ _ _ c.loop-n.invariant.3 (c.slide-slid.ensures.slides.slides _ refl)) _ _ _ _ _ _
     c.slide-slid.ensures.sees c.set_offset-here.ensures c.field_25.ensures c.field_20.ensures c.field_15.ensures c.ride-rode.result c.ride-rode.ensures) }
 
 pub overflow_add-n-in-Sets : goal.overflow_add-n-in-Sets
@@ -63,8 +50,7 @@ loop-n-preserved-in-Sets c = (
       omega (arith, c.ride-rode.auto.ram, c.slide-slid.auto.ram, c.loop-n.invariant.0),
       omega (arith, c.ride-rode.auto.tags, c.slide-slid.auto.tags, c.loop-n.invariant.1),
       omega (arith, c.slide-slid.ensures.steps_le_budget, c.loop-n.invariant.2, c.if-n-budget.false),
-      rw (c.on-way.ensures, c.kept_zero.ensures) (rw c.in-Sets.is at (let a = c.args in
-    came _ _ _ _ _ _ _ _ _ _ a.pcc c.slide-slid.result.way _ _ c.ride-rode.new.ram c.ride-rode.new.tags (slid c) _ _ _ _ _ _
+      rw (c.on-way.ensures, c.kept_zero.ensures) (rw c.in-Sets.is at (came _ _ _ _ _ _ _ _ _ _ c.args.pcc c.slide-slid.result.way _ _ c.ride-rode.new.ram c.ride-rode.new.tags (joins _ _ _ _ _ _ _ _ _ _ _ _ _ _ _ _ _ _ _ _ _ c.loop-n.invariant.3 (c.slide-slid.ensures.slides.slides _ refl)) _ _ _ _ _ _
     c.slide-slid.ensures.sees c.set_offset-here.ensures c.field_25.ensures c.field_20.ensures c.field_15.ensures c.ride-rode.result c.ride-rode.ensures)),
     )
 
@@ -79,7 +65,6 @@ loop-n-preserved c = (
       omega (arith, c.ride-rode.auto.ram, c.slide-slid.auto.ram, c.loop-n.invariant.0),
       omega (arith, c.ride-rode.auto.tags, c.slide-slid.auto.tags, c.loop-n.invariant.1),
       omega (arith, c.slide-slid.ensures.steps_le_budget, c.loop-n.invariant.2, c.if-n-budget.false),
-      rw c.on-way-in-Puts.ensures (rw c.in-Puts.is at (let a = c.args in
-    came _ _ _ _ _ _ _ _ _ _ a.pcc c.slide-slid.result.way _ _ c.ride-rode.new.ram c.ride-rode.new.tags (slid c) _ _ _ _ _ _
+      rw c.on-way-in-Puts.ensures (rw c.in-Puts.is at (came _ _ _ _ _ _ _ _ _ _ c.args.pcc c.slide-slid.result.way _ _ c.ride-rode.new.ram c.ride-rode.new.tags (joins _ _ _ _ _ _ _ _ _ _ _ _ _ _ _ _ _ _ _ _ _ c.loop-n.invariant.3 (c.slide-slid.ensures.slides.slides _ refl)) _ _ _ _ _ _
     c.slide-slid.ensures.sees c.set_offset-here.ensures c.field_25.ensures c.field_20.ensures c.field_15.ensures c.ride-rode.result c.ride-rode.ensures)),
     )

@@ -12,4 +12,5 @@ returns-then-registers-lt-REGISTERS c = rw (lt-leb REGISTERS _ c.if-registers-lt
 
 pub returns : goal.returns
 returns c = let read = c.read_book-started.ensures in
-    started _ _ _ _ _ c.if-registers-lt-REGISTERS.false _ _ _ _ _ _ read.0 read.1.0 read.1.1.0 read.1.1.1 c.put_registers.ensures c.verdict_number.ensures
+    let e = started _ _ _ _ _ c.if-registers-lt-REGISTERS.false _ _ _ _ _ _ read.verdict read.machine read.ram read.tags c.put_registers.ensures c.verdict_number.ensures in
+    record { code = e.0; ram = e.1.0; tags = e.1.1.0; registers = e.1.1.1 }

@@ -7,9 +7,13 @@ use Rattle.naming.proofs.name_cap.Goals as goal
 
 pub returns-then-is_zero : goal.returns-then-is_zero
 unfolding cap_piece
-returns-then-is_zero c = skipped _ _ _ _ (sym c.is_zero.ensures ∙ c.if-is_zero.true)
+returns-then-is_zero c =
+    let e = skipped _ _ _ _ (sym c.is_zero.ensures ∙ c.if-is_zero.true) in
+    record { value = e.0; out_after = e.1 }
 
 pub returns : goal.returns
 unfolding cap_piece
-returns c = spelled _ _ _ _ _ _ (sym c.is_zero.ensures ∙ c.if-is_zero.false)
-    c.put_cap.ensures (cap_bytes_lem _ _)
+returns c =
+    let e = spelled _ _ _ _ _ _ (sym c.is_zero.ensures ∙ c.if-is_zero.false)
+    c.put_cap.ensures (cap_bytes_lem _ _) in
+    record { value = e.0; out_after = e.1 }

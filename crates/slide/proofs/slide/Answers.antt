@@ -11,17 +11,6 @@ use Rattle.slide.specs.Slide.{Slides}
 use Rattle.slide.proofs.Slides.{Tells, told, slid_sets, slid_jumps, slid_rests, stays, slot_is, seen, untouched}
 use Rattle.slide.proofs.slide.Goals as goal
 
--- what the call of `plainly` answers of this step, whatever the other capability registers
-answer : (c : goal.After-plainly-did) (caps : List Cap)
-    → let l = c.loop-n in
-    let a = c.args in
-    a.c0 ≡ get_or caps 0 null → Tells a.flash.now l.g caps (set_offset a.pcc l.way.at) (waiting_at l.way.slot a.pcc l.way.target) l.ram l.tags c.plainly-did.new.ram c.plainly-did.new.tags c.plainly-did.result
-answer c caps fc =
-    let l = c.loop-n in
-    let a = c.args in
-    told a.flash.now l.g caps (set_offset a.pcc l.way.at) (waiting_at l.way.slot a.pcc l.way.target) l.ram l.tags _ _ _ _ _ _ _ _ _ _ _
-    c.set_offset.ensures c.fetch-fetched.ensures c.word_of-word.ensures (slot_is l.way.slot a.pcc l.way.target) c.ahead-ahead.ensures c.field_25-i25.ensures c.field_20-n20.ensures c.field_15-n15.ensures fc _ c.plainly-did.ensures
-
 pub loop-n-init : goal.loop-n-init
 loop-n-init c = (refl, refl, omega arith, stays _ _ _ _ _ _ _)
 
@@ -45,7 +34,8 @@ loop-n-preserved-in-Sets c = let l = c.loop-n in (
       omega (arith, c.plainly-did.auto.ram, l.invariant.0),
       omega (arith, c.plainly-did.auto.tags, l.invariant.1),
       omega (arith, l.invariant.2, c.if-n-budget.false),
-      slid_sets _ _ _ _ _ _ _ _ _ _ _ _ _ _ l.invariant.3 _ (answer c) _ _ _ _ c.in-Sets.is c.kept_zero.ensures c.on-way.ensures,
+      slid_sets _ _ _ _ _ _ _ _ _ _ _ _ _ _ l.invariant.3 _ (λ caps fc. told c.args.flash.now c.loop-n.g caps (set_offset c.args.pcc c.loop-n.way.at) (waiting_at c.loop-n.way.slot c.args.pcc c.loop-n.way.target) c.loop-n.ram c.loop-n.tags _ _ _ _ _ _ _ _ _ _ _
+    c.set_offset.ensures c.fetch-fetched.ensures c.word_of-word.ensures (slot_is c.loop-n.way.slot c.args.pcc c.loop-n.way.target) c.ahead-ahead.ensures c.field_25-i25.ensures c.field_20-n20.ensures c.field_15-n15.ensures fc _ c.plainly-did.ensures) _ _ _ _ c.in-Sets.is c.kept_zero.ensures c.on-way.ensures,
     )
 
 pub overflow_add-n-in-Jumps : goal.overflow_add-n-in-Jumps
@@ -59,7 +49,8 @@ loop-n-preserved c = let l = c.loop-n in (
       omega (arith, c.plainly-did.auto.ram, l.invariant.0),
       omega (arith, c.plainly-did.auto.tags, l.invariant.1),
       omega (arith, l.invariant.2, c.if-n-budget.false),
-      slid_jumps _ _ _ _ _ _ _ _ _ _ _ _ _ _ l.invariant.3 _ (answer c) _ _ c.in-Jumps.is c.turned-way.ensures,
+      slid_jumps _ _ _ _ _ _ _ _ _ _ _ _ _ _ l.invariant.3 _ (λ caps fc. told c.args.flash.now c.loop-n.g caps (set_offset c.args.pcc c.loop-n.way.at) (waiting_at c.loop-n.way.slot c.args.pcc c.loop-n.way.target) c.loop-n.ram c.loop-n.tags _ _ _ _ _ _ _ _ _ _ _
+    c.set_offset.ensures c.fetch-fetched.ensures c.word_of-word.ensures (slot_is c.loop-n.way.slot c.args.pcc c.loop-n.way.target) c.ahead-ahead.ensures c.field_25-i25.ensures c.field_20-n20.ensures c.field_15-n15.ensures fc _ c.plainly-did.ensures) _ _ c.in-Jumps.is c.turned-way.ensures,
     )
 
 pub shape_of-ram-in-Other : goal.shape_of-ram-in-Other
@@ -70,4 +61,6 @@ shape_of-tags-in-Other c = omega (arith, c.plainly-did.auto.tags, c.loop-n.invar
 
 pub returns-in-Other : goal.returns-in-Other
 returns-in-Other c = let l = c.loop-n in
-    let u = untouched _ _ _ _ _ _ _ _ _ _ (answer c) c.in-Other.is in record { steps_le_budget = l.invariant.2; slides = slid_rests _ _ _ _ _ _ _ _ _ _ _ _ _ _ l.invariant.3 _ (answer c) c.in-Other.is; sees = rw u.0 (seen _ _ _ _ _ _ _ _ c.set_offset.ensures c.fetch-fetched.ensures c.word_of-word.ensures c.ahead-ahead.ensures) }
+    let u = untouched _ _ _ _ _ _ _ _ _ _ (λ caps fc. told c.args.flash.now c.loop-n.g caps (set_offset c.args.pcc c.loop-n.way.at) (waiting_at c.loop-n.way.slot c.args.pcc c.loop-n.way.target) c.loop-n.ram c.loop-n.tags _ _ _ _ _ _ _ _ _ _ _
+    c.set_offset.ensures c.fetch-fetched.ensures c.word_of-word.ensures (slot_is c.loop-n.way.slot c.args.pcc c.loop-n.way.target) c.ahead-ahead.ensures c.field_25-i25.ensures c.field_20-n20.ensures c.field_15-n15.ensures fc _ c.plainly-did.ensures) c.in-Other.is in record { steps_le_budget = l.invariant.2; slides = slid_rests _ _ _ _ _ _ _ _ _ _ _ _ _ _ l.invariant.3 _ (λ caps fc. told c.args.flash.now c.loop-n.g caps (set_offset c.args.pcc c.loop-n.way.at) (waiting_at c.loop-n.way.slot c.args.pcc c.loop-n.way.target) c.loop-n.ram c.loop-n.tags _ _ _ _ _ _ _ _ _ _ _
+    c.set_offset.ensures c.fetch-fetched.ensures c.word_of-word.ensures (slot_is c.loop-n.way.slot c.args.pcc c.loop-n.way.target) c.ahead-ahead.ensures c.field_25-i25.ensures c.field_20-n20.ensures c.field_15-n15.ensures fc _ c.plainly-did.ensures) c.in-Other.is; sees = rw u.0 (seen _ _ _ _ _ _ _ _ c.set_offset.ensures c.fetch-fetched.ensures c.word_of-word.ensures c.ahead-ahead.ensures) }

@@ -33,7 +33,7 @@ pub loop-i-preserved : goal.loop-i-preserved
 loop-i-preserved c = let l = c.loop-i in
     let a = c.args in
     let n = c.name_cap-end.ensures in
-    (omega arith, run_next a.out.now a.at 0 (piece a.caps) l.out _ l.end _ l.i l.i (omega arith) (ap (λ k. l.end + k) n.0) l.invariant.1 n.1)
+    (omega arith, run_next a.out.now a.at 0 (piece a.caps) l.out _ l.end _ l.i l.i (omega arith) (ap (λ k. l.end + k) n.value) l.invariant.1 n.out_after)
 
 pub returns : goal.returns
 unfolding cap_pieces

@@ -31,7 +31,7 @@ pub loop-i-preserved : goal.loop-i-preserved
 loop-i-preserved c = let l = c.loop-i in
     let a = c.args in
     let n = c.name_general-end.ensures in
-    (omega arith, run_next a.out.now a.at 1 (piece a.general) l.out _ l.end _ l.i (l.i + 1) (omega arith) (ap (λ k. l.end + k) n.0) l.invariant.1 n.1)
+    (omega arith, run_next a.out.now a.at 1 (piece a.general) l.out _ l.end _ l.i (l.i + 1) (omega arith) (ap (λ k. l.end + k) n.value) l.invariant.1 n.out_after)
 
 pub returns : goal.returns
 unfolding general_pieces

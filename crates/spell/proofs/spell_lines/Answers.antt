@@ -15,7 +15,7 @@ loop-i-init c = let a = c.args in (omega arith, run_begins _ _ 0 (line_piece a.r
 pub overflow_add-end : goal.overflow_add-end
 overflow_add-end c = let l = c.loop-i in
     let a = c.args in
-    let n = line_told a.ram.now a.tags.now l.out _ l.i l.end _ _ c.tag_of-tag.ensures c.name_line-end.ensures in
+    let n = line_told a.ram.now a.tags.now l.out _ l.i l.end _ _ c.tag_of-tag.ensures (c.name_line-end.ensures.value, c.name_line-end.ensures.out_after) in
     omega (
       arith,
       run_ends a.out.now a.at 0 (line_piece a.ram.now a.tags.now) l.out l.end l.i 44 (line_most a.ram.now a.tags.now) l.invariant.1,
@@ -29,7 +29,7 @@ overflow_add-end c = let l = c.loop-i in
 pub loop-i-preserved : goal.loop-i-preserved
 loop-i-preserved c = let l = c.loop-i in
     let a = c.args in
-    let n = line_told a.ram.now a.tags.now l.out _ l.i l.end _ _ c.tag_of-tag.ensures c.name_line-end.ensures in
+    let n = line_told a.ram.now a.tags.now l.out _ l.i l.end _ _ c.tag_of-tag.ensures (c.name_line-end.ensures.value, c.name_line-end.ensures.out_after) in
     (omega arith, run_next a.out.now a.at 0 (line_piece a.ram.now a.tags.now) l.out _ l.end _ l.i l.i (omega arith) (ap (λ k. l.end + k) n.0) l.invariant.1 n.1)
 
 pub returns : goal.returns

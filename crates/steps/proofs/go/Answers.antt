@@ -47,7 +47,8 @@ pub shape_of-tags-in-Stops : goal.shape_of-tags-in-Stops
 shape_of-tags-in-Stops c = omega (arith, c.turn-turn.auto.tags, c.loop-n.invariant.1)
 
 pub returns-in-Stops : goal.returns-in-Stops
-returns-in-Stops c = let t = (let l = c.loop-n in
+returns-in-Stops c = 
+    let l = c.loop-n in
     let flash = c.args.flash.now in
     let m = holding l.g l.cs l.pcc l.pending l.cause in
     let f = c.fetch-fetched.ensures in
@@ -55,12 +56,11 @@ returns-in-Stops c = let t = (let l = c.loop-n in
     let f25 = c.field_25.ensures in
     let f20 = c.field_20.ensures in
     let f15 = c.field_15.ensures in
-    let f10 = c.field_10.ensures in (
-      turn_is flash l.ram l.tags m _ _ _ _ _ _ f fw f25 f20 f15 f10 _ c.turn-turn.ensures.value,
-      ram_is flash l.ram l.tags m _ _ _ _ _ _ f fw f25 f20 f15 f10 _ c.turn-turn.ensures.ram_after,
-      tags_is flash l.ram l.tags m _ _ _ _ _ _ f fw f25 f20 f15 f10 _ c.turn-turn.ensures.tags_after,
-    )) in
-    let e = off _ _ _ _ _ _ c.loop-n-test.true _ _ _ _ (sym c.in-Stops.is ∙ t.0) t.1 t.2 c.stopped.ensures ∙ c.loop-n.invariant.3 in
+    let f10 = c.field_10.ensures in
+    let t = turn_is flash l.ram l.tags m _ _ _ _ _ _ f fw f25 f20 f15 f10 _ c.turn-turn.ensures.value in
+    let r = ram_is flash l.ram l.tags m _ _ _ _ _ _ f fw f25 f20 f15 f10 _ c.turn-turn.ensures.ram_after in
+    let g = tags_is flash l.ram l.tags m _ _ _ _ _ _ f fw f25 f20 f15 f10 _ c.turn-turn.ensures.tags_after in
+    let e = off _ _ _ _ _ _ c.loop-n-test.true _ _ _ _ (sym c.in-Stops.is ∙ t) r g c.stopped.ensures ∙ c.loop-n.invariant.3 in
     record { value = ap (λ (r : Result). r.outcome) e; ram_after = ap (λ (r : Result). r.ram) e; tags_after = ap (λ (r : Result). r.tags) e }
 
 pub overflow_add-n-in-Next : goal.overflow_add-n-in-Next
@@ -70,7 +70,8 @@ pub loop-n-smaller : goal.loop-n-smaller
 loop-n-smaller c = stepped _ _ c.loop-n.fresh c.loop-n-test.true
 
 pub loop-n-preserved : goal.loop-n-preserved
-loop-n-preserved c = let t = (let l = c.loop-n in
+loop-n-preserved c = 
+    let l = c.loop-n in
     let flash = c.args.flash.now in
     let m = holding l.g l.cs l.pcc l.pending l.cause in
     let f = c.fetch-fetched.ensures in
@@ -78,15 +79,14 @@ loop-n-preserved c = let t = (let l = c.loop-n in
     let f25 = c.field_25.ensures in
     let f20 = c.field_20.ensures in
     let f15 = c.field_15.ensures in
-    let f10 = c.field_10.ensures in (
-      turn_is flash l.ram l.tags m _ _ _ _ _ _ f fw f25 f20 f15 f10 _ c.turn-turn.ensures.value,
-      ram_is flash l.ram l.tags m _ _ _ _ _ _ f fw f25 f20 f15 f10 _ c.turn-turn.ensures.ram_after,
-      tags_is flash l.ram l.tags m _ _ _ _ _ _ f fw f25 f20 f15 f10 _ c.turn-turn.ensures.tags_after,
-    )) in (
+    let f10 = c.field_10.ensures in
+    let t = turn_is flash l.ram l.tags m _ _ _ _ _ _ f fw f25 f20 f15 f10 _ c.turn-turn.ensures.value in
+    let r = ram_is flash l.ram l.tags m _ _ _ _ _ _ f fw f25 f20 f15 f10 _ c.turn-turn.ensures.ram_after in
+    let g = tags_is flash l.ram l.tags m _ _ _ _ _ _ f fw f25 f20 f15 f10 _ c.turn-turn.ensures.tags_after in (
       omega (arith, c.turn-turn.auto.ram, c.loop-n.invariant.0),
       omega (arith, c.turn-turn.auto.tags, c.loop-n.invariant.1),
       omega (arith, c.loop-n-test.true),
-      on _ _ _ _ _ _ c.loop-n-test.true _ _ _ _ _ (sym c.in-Next.is ∙ t.0) t.1 t.2 c.kept_zero.ensures c.next_pcc-pcc.ensures ∙ c.loop-n.invariant.3,
+      on _ _ _ _ _ _ c.loop-n-test.true _ _ _ _ _ (sym c.in-Next.is ∙ t) r g c.kept_zero.ensures c.next_pcc-pcc.ensures ∙ c.loop-n.invariant.3,
     )
 
 pub shape_of-ram : goal.shape_of-ram

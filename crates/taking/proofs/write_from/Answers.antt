@@ -6,9 +6,9 @@ use Rattle.taking.proofs.write_from.Goals as goal
 pub returns-in-Refused : goal.returns-in-Refused
 unfolding write_from
 returns-in-Refused c = let read = c.read_book-started.ensures in
-    rw (← sym c.in-Refused.is ∙ read.0) record { value = refl; book_after = refl }
+    rw (← sym c.in-Refused.is ∙ read.verdict) record { value = refl; book_after = refl }
 
 pub returns-in-Accepted : goal.returns-in-Accepted
 unfolding write_from
 returns-in-Accepted c = let read = c.read_book-started.ensures in
-    rw (← sym c.in-Accepted.is ∙ read.0, ← read.1.0) c.write_book.ensures
+    rw (← sym c.in-Accepted.is ∙ read.verdict, ← read.machine) record { value = c.write_book.ensures.value; book_after = c.write_book.ensures.out_after }

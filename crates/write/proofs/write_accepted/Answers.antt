@@ -12,9 +12,9 @@ returns-then-not-both c = let a = c.args in
     record { value = ap (λ (s : Result). s.written) w; out_after = ap (λ (s : Result). s.out) w }
 
 pub returns-then-out-bytes : goal.returns-then-out-bytes
-returns-then-out-bytes c = let w = no_room c.args.m c.args.ram.now c.args.tags.now c.args.out.now c.requires (rw (← c.is_pending.ensures, ← c.both.ensures) (c.if-not-both.false)) _ _ c.put_book-bytes.ensures c.if-out-bytes.true in
-    record { value = ap (λ (c : Result). c.written) w; out_after = ap (λ (c : Result). c.out-1) w }
+returns-then-out-bytes c = let w = no_room c.args.m c.args.ram.now c.args.tags.now c.args.out.now c.requires (rw (← c.is_pending.ensures, ← c.both.ensures) (c.if-not-both.false)) _ _ (c.put_book-bytes.ensures.value, c.put_book-bytes.ensures.out_after) c.if-out-bytes.true in
+    record { value = ap (λ (s : Result). s.written) w; out_after = ap (λ (s : Result). s.out) w }
 
 pub returns : goal.returns
-returns c = let w = written c.args.m c.args.ram.now c.args.tags.now c.args.out.now c.requires (rw (← c.is_pending.ensures, ← c.both.ensures) (c.if-not-both.false)) _ _ c.put_book-bytes.ensures c.if-out-bytes.false in
-    record { value = ap (λ (c : Result). c.written) w; out_after = ap (λ (c : Result). c.out-1) w }
+returns c = let w = written c.args.m c.args.ram.now c.args.tags.now c.args.out.now c.requires (rw (← c.is_pending.ensures, ← c.both.ensures) (c.if-not-both.false)) _ _ (c.put_book-bytes.ensures.value, c.put_book-bytes.ensures.out_after) c.if-out-bytes.false in
+    record { value = ap (λ (s : Result). s.written) w; out_after = ap (λ (s : Result). s.out) w }
