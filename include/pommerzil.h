@@ -23,8 +23,8 @@
  *
  * To build it, on x86-64 Linux (examples/c has a whole program):
  *
- *     rt staticlib pommerzil
- *     cc -I include main.c target/staticlib/libpommerzil.a
+ *     (cd crates/pommerzil && rt lib)
+ *     cc -I include main.c crates/pommerzil/out/libpommerzil.a
  */
 #ifndef POMMERZIL_H
 #define POMMERZIL_H

@@ -4,11 +4,14 @@
 // what reading exactly its bytes gives. All but REFUSAL and LENGTH are checksums, as second/src/generate/answers.rs says.
 #![tactic(auto)]
 
-ghost use Rattle.std.specs.Prelude.{◌≡◌, length};
+ghost use Rattle.std.specs.Prelude.{◌≡◌, length, OnOk};
+ghost use Rattle.std.specs.Io.KnownBytes.{Appends};
+ghost use Rattle.tables.specs.Lines.{printed};
 
-use libc::STDOUT_FILENO;
 use manual::Written;
 use pages::Started;
+use std::io;
+use std::io::{BufWriter, Read, Write};
 
 const MOST_CASES: usize = 1_000_000;
 
@@ -27,9 +30,11 @@ const READ: u8 = 2;
 const FIRST: usize = 1;
 
 // A number in decimal, and a byte after it.
-fn print(n: u64, end: u8) {
-    io::print_decimal(STDOUT_FILENO, n);
-    io::write_all(STDOUT_FILENO, &[end]);
+fn print<W: Write>(to: &mut W, n: u64, end: u8) -> io::Result<()>
+    ensures { OnOk result (Appends (W.contents to.old) (W.contents to.new) (printed n end)) }
+{
+    write!(to, "{n}")?;
+    to.write_all(&[end])
 }
 
 // A memory full of this byte.
@@ -39,85 +44,117 @@ fn memory(b: u8) -> [u8; RAM]
     [b; RAM]
 }
 
-fn print_started(started: Started) {
+fn print_started<W: Write>(to: &mut W, started: Started) -> io::Result<()> {
     let verdict = started.verdict;
     let m = started.machine;
-    print(told::verdict_number(verdict) as u64, b' ');
-    print(sums::sum_machine(m), b' ');
+    print(to, told::verdict_number(verdict) as u64, b' ')?;
+    print(to, sums::sum_machine(m), b' ')
 }
 
 // Reads a book, and prints what it gives.
-fn read(book: &[u8], flash: usize, ram: &mut [u8], tags: &mut [u8]) {
-    print_started(enter::read_book(book, flash, ram, tags));
-    print(sums::sum_bytes(ram), b' ');
-    print(sums::sum_bytes(tags), b'\n');
+fn read<W: Write>(
+    to: &mut W,
+    book: &[u8],
+    flash: usize,
+    ram: &mut [u8],
+    tags: &mut [u8],
+) -> io::Result<()> {
+    print_started(to, enter::read_book(book, flash, ram, tags))?;
+    print(to, sums::sum_bytes(ram), b' ')?;
+    print(to, sums::sum_bytes(tags), b'\n')
 }
 
-fn read_with_tags(
+fn read_with_tags<W: Write>(
+    to: &mut W,
     body: &[u8],
     tags_at: usize,
     book: &[u8],
     flash: usize,
     ram: &mut [u8],
     tags: &mut [u8],
-) {
+) -> io::Result<()> {
     pieces::put_memory(tags, body, tags_at);
-    read(book, flash, ram, tags);
+    read(to, book, flash, ram, tags)
 }
 
-fn read_with_ram(body: &[u8], ram_at: usize, book: &[u8], flash: usize, ram: &mut [u8]) {
+fn read_with_ram<W: Write>(
+    to: &mut W,
+    body: &[u8],
+    ram_at: usize,
+    book: &[u8],
+    flash: usize,
+    ram: &mut [u8],
+) -> io::Result<()> {
     let tags_at = pieces::put_memory(ram, body, ram_at);
     let mut tags = [0; TAGS];
     let n = pieces::size_in(body, tags_at, &tags);
-    read_with_tags(body, tags_at, book, flash, ram, &mut tags[..n]);
+    read_with_tags(to, body, tags_at, book, flash, ram, &mut tags[..n])
 }
 
-fn read_with_book(body: &[u8], flash_at: usize, book: &[u8]) {
+fn read_with_book<W: Write>(
+    to: &mut W,
+    body: &[u8],
+    flash_at: usize,
+    book: &[u8],
+) -> io::Result<()> {
     let ram_at = tables::after(flash_at, 4);
     let mut ram = memory(0);
     let n = pieces::size_in(body, ram_at, &ram);
     read_with_ram(
+        to,
         body,
         ram_at,
         book,
         tables::number_4(body, flash_at) as usize,
         &mut ram[..n],
-    );
+    )
 }
 
-fn read_into(body: &[u8], book: &mut [u8]) {
+fn read_into<W: Write>(to: &mut W, body: &[u8], book: &mut [u8]) -> io::Result<()> {
     let flash_at = pieces::put_memory(book, body, FIRST);
-    read_with_book(body, flash_at, book);
+    read_with_book(to, body, flash_at, book)
 }
 
 // Reads the book of this case, which takes its size of this space.
-fn read_case(body: &[u8], book: &mut [u8]) {
+fn read_case<W: Write>(to: &mut W, body: &[u8], book: &mut [u8]) -> io::Result<()> {
     let n = pieces::size_in(body, FIRST, book);
-    read_into(body, &mut book[..n]);
+    read_into(to, body, &mut book[..n])
 }
 
-fn read_back_in(book: &[u8], body: &[u8], tags_at: usize, ram: &mut [u8]) {
+fn read_back_in<W: Write>(
+    to: &mut W,
+    book: &[u8],
+    body: &[u8],
+    tags_at: usize,
+    ram: &mut [u8],
+) -> io::Result<()> {
     let mut tags = [1; TAGS];
     let n = pieces::size_in(body, tags_at, &tags);
-    read(book, 0, ram, &mut tags[..n]);
+    read(to, book, 0, ram, &mut tags[..n])
 }
 
 // Reads a written book over memories of this case's sizes, full of other bytes.
-fn read_back(book: &[u8], body: &[u8], tags_at: usize) {
+fn read_back<W: Write>(to: &mut W, book: &[u8], body: &[u8], tags_at: usize) -> io::Result<()> {
     let mut ram = memory(0xDD);
     let n = pieces::size_in(body, machines::machine_end(body, FIRST), &ram);
-    read_back_in(book, body, tags_at, &mut ram[..n]);
+    read_back_in(to, book, body, tags_at, &mut ram[..n])
 }
 
-fn print_written(written: Written, out: &[u8], body: &[u8], tags_at: usize) {
-    print(told::code_of(written) as u64, b' ');
-    print(told::bytes_of(written) as u64, b' ');
+fn print_written<W: Write>(
+    to: &mut W,
+    written: Written,
+    out: &[u8],
+    body: &[u8],
+    tags_at: usize,
+) -> io::Result<()> {
+    print(to, told::code_of(written) as u64, b' ')?;
+    print(to, told::bytes_of(written) as u64, b' ')?;
     let sum = sums::sum_bytes(out);
     match written {
-        Written::Refused(_) => print(sum, b'\n'),
+        Written::Refused(_) => print(to, sum, b'\n'),
         Written::Book(bytes) => {
-            print(sum, b' ');
-            read_back(tables::part(out, 0, bytes), body, tags_at);
+            print(to, sum, b' ')?;
+            read_back(to, tables::part(out, 0, bytes), body, tags_at)
         }
     }
 }
@@ -126,60 +163,86 @@ fn write_book(body: &[u8], ram: &[u8], tags: &[u8], out: &mut [u8]) -> Written {
     write::write_book(machines::machine_in(body, FIRST), ram, tags, out)
 }
 
-fn write_with_out(
+fn write_with_out<W: Write>(
+    to: &mut W,
     body: &[u8],
     tags_at: usize,
     out_at: usize,
     ram: &[u8],
     tags: &[u8],
     out: &mut [u8],
-) {
+) -> io::Result<()> {
     pieces::put_memory(out, body, out_at);
     let written = write_book(body, ram, tags, out);
-    print_written(written, out, body, tags_at);
+    print_written(to, written, out, body, tags_at)
 }
 
-fn write_with_tags(body: &[u8], tags_at: usize, ram: &[u8], tags: &mut [u8], out: &mut [u8]) {
+fn write_with_tags<W: Write>(
+    to: &mut W,
+    body: &[u8],
+    tags_at: usize,
+    ram: &[u8],
+    tags: &mut [u8],
+    out: &mut [u8],
+) -> io::Result<()> {
     let out_at = pieces::put_memory(tags, body, tags_at);
     let n = pieces::size_in(body, out_at, out);
-    write_with_out(body, tags_at, out_at, ram, tags, &mut out[..n]);
+    write_with_out(to, body, tags_at, out_at, ram, tags, &mut out[..n])
 }
 
-fn write_with_ram(body: &[u8], tags_at: usize, ram: &[u8], out: &mut [u8]) {
+fn write_with_ram<W: Write>(
+    to: &mut W,
+    body: &[u8],
+    tags_at: usize,
+    ram: &[u8],
+    out: &mut [u8],
+) -> io::Result<()> {
     let mut tags = [0; TAGS];
     let n = pieces::size_in(body, tags_at, &tags);
-    write_with_tags(body, tags_at, ram, &mut tags[..n], out);
+    write_with_tags(to, body, tags_at, ram, &mut tags[..n], out)
 }
 
-fn write_over(body: &[u8], ram_at: usize, ram: &mut [u8], out: &mut [u8]) {
+fn write_over<W: Write>(
+    to: &mut W,
+    body: &[u8],
+    ram_at: usize,
+    ram: &mut [u8],
+    out: &mut [u8],
+) -> io::Result<()> {
     let tags_at = pieces::put_memory(ram, body, ram_at);
-    write_with_ram(body, tags_at, ram, out);
+    write_with_ram(to, body, tags_at, ram, out)
 }
 
 // Writes the book of this case to a buffer that takes its size of this space.
-fn write_case(body: &[u8], out: &mut [u8]) {
+fn write_case<W: Write>(to: &mut W, body: &[u8], out: &mut [u8]) -> io::Result<()> {
     let ram_at = machines::machine_end(body, FIRST);
     let mut ram = memory(0);
     let n = pieces::size_in(body, ram_at, &ram);
-    write_over(body, ram_at, &mut ram[..n], out);
+    write_over(to, body, ram_at, &mut ram[..n], out)
 }
 
-fn one_case(body: &[u8], book: &mut [u8]) {
+fn one_case<W: Write>(to: &mut W, body: &[u8], book: &mut [u8]) -> io::Result<()> {
     if tables::byte(body, 0) == READ {
-        read_case(body, book);
+        read_case(to, body, book)
     } else {
-        write_case(body, book);
+        write_case(to, body, book)
     }
 }
 
-fn all_cases(space: &mut [u8], book: &mut [u8]) {
+fn all_cases<R: Read, W: Write>(
+    from: &mut R,
+    to: &mut W,
+    space: &mut [u8],
+    book: &mut [u8],
+) -> io::Result<()> {
     for _ in 0..MOST_CASES {
-        let n = pieces::next_body(space);
+        let n = pieces::next_body(from, space);
         if n == 0 {
-            return;
+            return Ok(());
         }
-        one_case(&space[..n], book);
+        one_case(to, &space[..n], book)?;
     }
+    Ok(())
 }
 
 fn space() -> [u8; SPACE]
@@ -188,8 +251,10 @@ fn space() -> [u8; SPACE]
     [0; SPACE]
 }
 
-fn main() {
+fn main(rt: HostRuntime) -> io::Result<()> {
     let mut body = space();
     let mut book = space();
-    all_cases(&mut body, &mut book);
+    let mut to = BufWriter::new(rt.alloc(), io::writer(&rt))?;
+    all_cases(&mut rt.reader(), &mut to, &mut body, &mut book)?;
+    to.flush()
 }

@@ -1,12 +1,13 @@
 // The memories of a case, piece by piece, and the next case read.
 #![tactic(auto)]
 
-ghost use Rattle.std.specs.Prelude.{◌≡◌, min, length, replicate};
-ghost use Rattle.io.specs.Counts.{IsPrefixLen};
+ghost use Rattle.std.specs.Prelude.{◌≡◌, min, length, replicate, take};
+ghost use Rattle.std.specs.Counts.{IsPrefixLen};
 ghost use Rattle.manual.specs.Store.{put};
 ghost use Rattle.tables.specs.Tables.{number4, piece_end, with_piece, memory_end, memory_in};
+ghost use Rattle.pieces.specs.Pieces.{ReadsBody};
 
-use libc::STDIN_FILENO;
+use std::io::Read;
 
 // Every byte this one.
 pub fn fill(memory: &mut [u8], b: u8)
@@ -24,7 +25,7 @@ fn put_at(memory: &mut [u8], place: usize, piece: &[u8])
     if piece.len() <= memory.len() {
         if place <= memory.len() - piece.len() {
             let end = place + piece.len();
-            bytes::copy(piece, &mut memory[place..end]);
+            memory[place..end].copy_from_slice(piece);
         }
     }
 }
@@ -70,14 +71,15 @@ pub fn size_in<'a>(s: &'a [u8], at: usize, space: &'a [u8]) -> usize
     }
 }
 
-// Reads a case into this space: how many bytes its body has, 0 where there is none. No contract can say which bytes are read.
-pub fn next_body(space: &mut [u8]) -> usize
-    ensures { IsPrefixLen result space.new }
+// Reads a case into this space: how many bytes its body has, 0 where there is none.
+pub fn next_body<R: Read>(input: &mut R, space: &mut [u8]) -> usize
+    ensures count { IsPrefixLen result space.new }
+    ensures bytes { ReadsBody (R.remaining input.old) (R.remaining input.new) (take result space.new) }
 {
     let mut head: [u8; 4] = [0; 4];
-    if io::read_full(STDIN_FILENO, &mut head) < 4 {
+    if tables::read_full(input, &mut head) < 4 {
         return 0;
     }
     let n = size_in(&head, 0, space);
-    io::read_full(STDIN_FILENO, &mut space[..n])
+    tables::read_full(input, &mut space[..n])
 }

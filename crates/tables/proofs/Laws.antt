@@ -1,12 +1,11 @@
 -- What is read of a case, within its bytes and past them, and what is put into a memory. Assumes nothing.
-use Rattle.std.proofs.Common.{◌≡◌, ℕ, suc, ◌+◌, ◌-◌, ◌<◌, ◌≤◌, List, [], ◌++◌, length, take, drop, set, replicate, sym, refl, ◌∙◌, append-nil, arith, drop_of_length-le, length-take-le, le-ltb, lt-ltb, le-leb}
+use Rattle.std.proofs.Common.{◌≡◌, ℕ, suc, ◌+◌, ◌-◌, ◌<◌, ◌≤◌, List, [], ◌++◌, length, take, drop, set, replicate, sym, ap, ◌∙◌, append-nil, arith, drop_of_length-le, length-take-le, le-ltb, lt-ltb, le-leb}
 use native.Mathlib.Nat.{add-sub_cancel_left}
 use borrow.Author.Tests.{lt-leb}
+use borrow.Rule.Slice.PartMut.{put_mid, post_of}
+use lib.Seq.{take-append-add, take-append-le}
 use lib.ListN.{get_or-eq_default}
-use lib.Seq.{take-length}
-use Rattle.io.specs.Counts.{IsPrefixLen}
-use Rattle.manual.specs.Store.{put}
-use Rattle.manual.proofs.Stores.{put_part, length_part}
+use Rattle.std.specs.Counts.{IsPrefixLen}
 use Rattle.tables.specs.Tables.{byte_at, place_after, part_at, number_at, entries, with_value}
 
 pub byte_past : (s : List ℕ) (at : ℕ) → length s ≤ at → 0 ≡ byte_at s at
@@ -49,11 +48,8 @@ module _ (body general : List ℕ) (at number value : ℕ) (p : number ≡ byte_
 pub filled : (l ys : List ℕ) (b i : ℕ) → ys ≡ replicate i b ++ drop i l → i ≤ length l → length l ≤ i → ys ≡ replicate (length l) b
 filled l ys b i e h k = let z : i ≡ length l = omega arith in e ∙ rw (drop_of_length-le l k, append-nil, z)
 
--- a piece copied over a part of its length
-pub copied : (l piece ys : List ℕ) (at : ℕ) → at + length piece ≤ length l
-    → ys ≡ take (length piece) piece ++ drop (length piece) (take (at + length piece - at) (drop at l))
-    → take at l ++ (ys ++ drop (at + length piece - at) (drop at l)) ≡ put l at piece
-copied l piece ys at h e =
-    let n = length_part l at (length piece) h in
-    let z : ys ≡ piece = e ∙ rw (take-length, drop_of_length-le (take (at + length piece - at) (drop at l)) {i = length piece} (omega arith), append-nil) in
-    put_part l at (length piece) ys piece h z refl
+-- what is read at `done` stands behind what was read before
+pub read_more : (l ys : List ℕ) (done k n : ℕ) → done ≤ length l → n ≤ length ys → take (done + n) (put_mid done k l ys) ≡ take done l ++ take n ys
+read_more l ys done k n h i =
+    let m : done + n ≡ length (take done l) + n = omega (arith, length-take-le done l h) in
+    ap (λ (m : ℕ). take m (put_mid done k l ys)) m ∙ take-append-add (take done l) (ys ++ post_of done k l) n ∙ ap (λ (t : List ℕ). take done l ++ t) (take-append-le n ys (post_of done k l) i)

@@ -1,1 +1,2 @@
 pub mod Tables
+pub mod Lines

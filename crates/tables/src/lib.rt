@@ -2,8 +2,28 @@
 // second/src/generate/answers.rs says. It is the programs' input and output and no part of the model.
 #![tactic(auto)]
 
-ghost use Rattle.std.specs.Prelude.{◌≡◌};
+ghost use Rattle.std.specs.Prelude.{◌≡◌, take};
+ghost use Rattle.std.specs.Counts.{IsPrefixLen};
+ghost use Rattle.std.specs.Io.KnownBytes.{Consumes};
 ghost use Rattle.tables.specs.Tables.{byte_at, place_after, part_at, number_at, number4};
+
+use std::io::Read;
+
+// Reads until the space is full, the input ends or a read fails: how many bytes stand at the front of the space.
+pub fn read_full<R: Read>(input: &mut R, space: &mut [u8]) -> usize
+    ensures count { IsPrefixLen result space.new }
+    ensures bytes { Consumes (R.remaining input.old) (R.remaining input.new) (take result space.new) }
+{
+    let mut done = 0;
+    while done < space.len() {
+        match input.read(&mut space[done..]) {
+            Ok(0) => break,
+            Ok(n) => done += n,
+            Err(_) => break,
+        }
+    }
+    done
+}
 
 // What is read past the end is 0.
 pub fn byte(s: &[u8], at: usize) -> u8

@@ -2,10 +2,15 @@
 // 65,536 in all; a word's line is six numbers, WORD NUMBER SUB FLAG IMMEDIATE JUMP, 0 for what an instruction lacks.
 #![tactic(auto)]
 
-ghost use Rattle.std.specs.Prelude.{◌/◌, ◌<◌, length};
+ghost use Rattle.std.specs.Prelude.{◌/◌, ◌<◌, length, OnOk};
+ghost use Rattle.std.specs.Io.KnownBytes.{Appends};
+ghost use Rattle.tables.specs.Lines.{printed};
 
-use libc::{STDIN_FILENO, STDOUT_FILENO};
 use manual::Instr;
+use std::io;
+use std::io::{BufWriter, Write};
+
+const TABLE: usize = 65_536;
 
 // SUB: the operation, the bytes of a load or a store of data, the field or the kind.
 fn sub(i: Instr) -> u64 {
@@ -49,19 +54,22 @@ fn immediate(i: Instr) -> u64 {
     }
 }
 
-fn print(n: u64, end: u8) {
-    io::print_decimal(STDOUT_FILENO, n);
-    io::write_all(STDOUT_FILENO, &[end]);
+// A number in decimal, and a byte after it.
+fn print<W: Write>(to: &mut W, n: u64, end: u8) -> io::Result<()>
+    ensures { OnOk result (Appends (W.contents to.old) (W.contents to.new) (printed n end)) }
+{
+    write!(to, "{n}")?;
+    to.write_all(&[end])
 }
 
-fn print_line(word: u32) {
+fn print_line<W: Write>(to: &mut W, word: u32) -> io::Result<()> {
     let i = decode::decode(word);
-    print(word as u64, b' ');
-    print(numbers::number(i), b' ');
-    print(sub(i), b' ');
-    print(flag(i) as u64, b' ');
-    print(immediate(i), b' ');
-    print(isa::is_jump_word(word) as u64, b'\n');
+    print(to, word as u64, b' ')?;
+    print(to, numbers::number(i), b' ')?;
+    print(to, sub(i), b' ')?;
+    print(to, flag(i) as u64, b' ')?;
+    print(to, immediate(i), b' ')?;
+    print(to, isa::is_jump_word(word) as u64, b'\n')
 }
 
 fn word_at(table: &[u8], i: usize) -> u32
@@ -70,14 +78,17 @@ fn word_at(table: &[u8], i: usize) -> u32
     (num::load_be(&table[4 * i..4 * i + 4]) % 0x1_0000_0000) as u32
 }
 
-fn print_lines(table: &[u8]) {
+fn print_lines<W: Write>(to: &mut W, table: &[u8]) -> io::Result<()> {
     for i in 0..table.len() / 4 {
-        print_line(word_at(table, i));
+        print_line(to, word_at(table, i))?;
     }
+    Ok(())
 }
 
-fn main() {
-    let mut table = io::large_buffer();
-    let n = io::read_full(STDIN_FILENO, &mut table);
-    print_lines(&table[..n]);
+fn main(rt: HostRuntime) -> io::Result<()> {
+    let mut table = [0; TABLE];
+    let n = tables::read_full(&mut rt.reader(), &mut table);
+    let mut to = BufWriter::new(rt.alloc(), io::writer(&rt))?;
+    print_lines(&mut to, &table[..n])?;
+    to.flush()
 }

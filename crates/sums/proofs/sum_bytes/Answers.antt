@@ -1,13 +1,7 @@
-use Prim.Native.Nat.{◌-◌}
-use mathlib.Core.Path.{◌≡◌, refl, sym, ◌∙◌}
+use mathlib.Core.Path.{sym, ◌∙◌}
 use native.Mathlib.Omega.{arith}
-use borrow.Author.Rules.{rules}
-use lib.ListN.{drop}
-use Rattle.sums.specs.Sums.{sum_with, checksum}
 use Rattle.sums.proofs.Sums.{sum_byte, sum_end}
 use Rattle.sums.proofs.sum_bytes.Goals as goal
-
--- The loop's invariant: the bytes from `i` on make of `sum` what all of them make of 1.
 
 pub loop-i-preserved : goal.loop-i-preserved
 loop-i-preserved c = let l = c.loop-i in
@@ -16,6 +10,3 @@ loop-i-preserved c = let l = c.loop-i in
 
 pub returns : goal.returns
 returns c = let l = c.loop-i in sym (sum_end _ l.i l.sum c.loop-i-test.false) ∙ l.invariant
-
-pub loop-i-init : goal.loop-i-init
-loop-i-init c = refl

@@ -1,12 +1,10 @@
 use Prim.Native.Nat.{◌-◌}
-use mathlib.Core.Path.{◌≡◌, refl, sym, ◌∙◌}
-use native.Mathlib.Omega.{arith}
-use borrow.Author.Rules.{rules}
+use mathlib.Core.Path.{◌≡◌}
 use lib.ListN.{drop}
 use Rattle.sums.specs.Sums.{sum_with, checksum}
-use Rattle.sums.proofs.Sums.{sum_byte, sum_end}
 use Rattle.sums.proofs.sum_bytes.Given as goal
 
+-- The loop's invariant: the bytes from `i` on make of `sum` what all of them make of 1.
 abbrev pub invariant-loop-i : goal.invariant-loop-i
 invariant-loop-i l = sum_with l.sum (drop l.i l.bytes) ≡ checksum l.bytes
 

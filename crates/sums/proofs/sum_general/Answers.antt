@@ -1,15 +1,8 @@
-use Prim.Native.Nat.{◌-◌}
-use mathlib.Core.Path.{◌≡◌, refl, sym, ◌∙◌}
-use mathlib.Core.List.{flat_map}
+use mathlib.Core.Path.{sym, ◌∙◌}
 use native.Mathlib.Omega.{arith}
-use borrow.Author.Rules.{rules}
-use lib.ListN.{drop}
 use Rattle.manual.specs.Number.{to_be}
-use Rattle.sums.specs.Sums.{sum_with}
 use Rattle.sums.proofs.Sums.{sum_next, sum_last}
 use Rattle.sums.proofs.sum_general.Goals as goal
-
--- The loop's invariant: the registers from `i` on make of `sum` what all of them make of `start`.
 
 pub loop-i-preserved : goal.loop-i-preserved
 loop-i-preserved c = let l = c.loop-i in
@@ -17,6 +10,3 @@ loop-i-preserved c = let l = c.loop-i in
 
 pub returns : goal.returns
 returns c = let l = c.loop-i in sym (sum_last (to_be 8) 0 c.args.general l.i l.sum (omega arith)) ∙ l.invariant
-
-pub loop-i-init : goal.loop-i-init
-loop-i-init c = refl

@@ -1,4 +1,3 @@
-use borrow.Author.Rules.{rules}
 use Rattle.sums.specs.Sums.{pending_bytes}
 use Rattle.sums.proofs.Sums.{sum_more}
 use Rattle.sums.proofs.sum_pending.Goals as goal
