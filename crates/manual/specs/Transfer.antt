@@ -18,9 +18,9 @@ use Rattle.manual.specs.Checks.{Checked, ok, fail, finish, ◌>>◌, that, opene
 -- 01: Length, then alignment, then memory. Where the bytes lie is for memory to say; which stop misalignment gives, for the instruction.
 -- The pages' tests leave out cb.offset; 01 counts it, and so does access_of.
 abbrev pub lies : Access → ℕ → Fault → (Address → Effect) → Checked
-lies (Access.At a) register misaligned effect = ok (effect a)
-lies Access.Length register misaligned effect = fail (Fault.Raise LENGTH register)
-lies Access.Misaligned register misaligned effect = fail misaligned
+lies (Access.At a) register fault effect = ok (effect a)
+lies Access.Length register fault effect = fail (Fault.Raise LENGTH register)
+lies Access.Misaligned register fault effect = fail fault
 
 -- CLB, CLH, CLW, CLD, CLBU, CLHU, CLWU: Load Via Capability Register
 unfoldable pub load : Size → Bool → ℕ → Cap → ℕ → Named → ℕ → Checked
