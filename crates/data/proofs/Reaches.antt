@@ -17,17 +17,17 @@ use Rattle.manual.specs.Transfer.{lies}
 use Rattle.manual.proofs.Tests.{both_true}
 use Rattle.data.specs.Data.{Lands, Reaches, Reached}
 
-pub planned_at : (r : Access) (register : ℕ) (misaligned : Fault) (effect : Address → Effect) (a : Address) → r ≡ Access.At a → settle (lies r register misaligned effect) ≡ Planned.Does (effect a)
+pub planned_at : (r : Access) (register : ℕ) (fault : Fault) (effect : Address → Effect) (a : Address) → r ≡ Access.At a → settle (lies r register fault effect) ≡ Planned.Does (effect a)
 unfolding settle
-planned_at r register misaligned effect a q = rw q
+planned_at r register fault effect a q = rw q
 
 nowhere : (A : Type 0) (a : Address) → Access.Length ≡ Access.At a → A
 nowhere A a q = let z : ◌≡◌ {A = ℕ} 0 1 = cc in absurd (omega arith)
 
 -- an access that its checks let pass, planned
-pub planned_reached : (permission : ℕ) (pcc : Cap) (cb : Named) (rt x size : ℕ) (r : Access) (a : Address) (misaligned : Fault) (effect : Address → Effect) → Reaches permission pcc cb rt x size r → r ≡ Access.At a
-    → settle (opened pcc cb.number (tagged cb (unsealed cb (granted permission cb (lies (access_of cb.cap rt x size) cb.number misaligned effect))))) ≡ Planned.Does (effect a)
-planned_reached permission pcc cb rt x size r a misaligned effect t q = t.passes a q _ ∙ planned_at _ cb.number misaligned effect a (t.lands a q)
+pub planned_reached : (permission : ℕ) (pcc : Cap) (cb : Named) (rt x size : ℕ) (r : Access) (a : Address) (fault : Fault) (effect : Address → Effect) → Reaches permission pcc cb rt x size r → r ≡ Access.At a
+    → settle (opened pcc cb.number (tagged cb (unsealed cb (granted permission cb (lies (access_of cb.cap rt x size) cb.number fault effect))))) ≡ Planned.Does (effect a)
+planned_reached permission pcc cb rt x size r a fault effect t q = t.passes a q _ ∙ planned_at _ cb.number fault effect a (t.lands a q)
 
 no_check : (A : Type 0) → false ≡ true → A
 no_check A q = let z : ◌≡◌ {A = ℕ} 0 1 = cc in absurd (omega arith)

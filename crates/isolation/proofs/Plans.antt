@@ -91,11 +91,11 @@ module _ (P : Effect → Type 0) where
   settles (guard holds fault rest) g = passes_if holds (settle rest) (Planned.Fails fault) (λ e. settles rest (g e)) (λ e. tt)
   settles (fork test one other) g = passes_if test (settle one) (settle other) (λ e. settles one (g.0 e)) (λ e. settles other (g.1 e))
 
-  lies_good : (x : Access) (register : ℕ) (misaligned : Fault) (effect : Address → Effect)
-      → ((a : Address) → x ≡ Access.At a → P (effect a)) → Good (lies x register misaligned effect)
-  lies_good (Access.At a) register misaligned effect h = h a refl
-  lies_good Access.Length register misaligned effect h = tt
-  lies_good Access.Misaligned register misaligned effect h = tt
+  lies_good : (x : Access) (register : ℕ) (fault : Fault) (effect : Address → Effect)
+      → ((a : Address) → x ≡ Access.At a → P (effect a)) → Good (lies x register fault effect)
+  lies_good (Access.At a) register fault effect h = h a refl
+  lies_good Access.Length register fault effect h = tt
+  lies_good Access.Misaligned register fault effect h = tt
 
 module _ (Holds : Cap → Type 0) where
   -- c is narrowed from a tagged capability that is held
