@@ -44,7 +44,7 @@ pub shape_of-tags-in-Stops : goal.shape_of-tags-in-Stops
 shape_of-tags-in-Stops c = omega (arith, c.turn-turn.auto.tags, c.loop-n.invariant.1)
 
 pub returns-in-Stops : goal.returns-in-Stops
-returns-in-Stops c = 
+returns-in-Stops c =
     let l = c.loop-n in
     let flash = c.args.flash.now in
     let m = holding l.g l.cs l.pcc l.pending l.cause in
@@ -67,7 +67,7 @@ pub loop-n-smaller : goal.loop-n-smaller
 loop-n-smaller c = stepped _ _ c.loop-n.fresh c.loop-n-test.true
 
 pub loop-n-preserved : goal.loop-n-preserved
-loop-n-preserved c = 
+loop-n-preserved c =
     let l = c.loop-n in
     let flash = c.args.flash.now in
     let m = holding l.g l.cs l.pcc l.pending l.cause in
