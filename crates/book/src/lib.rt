@@ -81,6 +81,7 @@ pub fn step_at(book: &[u8], ram: usize, at: usize, kind: u8, key: u64) -> Step
 }
 
 // The verdict on a book, for a RAM of so many bytes: 30, then the first faulty record.
+#[tactic(auto, using(std::proofs::lemmas::Bool::Decides::nat_tests), unfolding(pages::specs::Book::check_book))]
 pub fn check(book: &[u8], ram: usize) -> Verdict
     ensures { result ≡ check_book book.now ram }
 {

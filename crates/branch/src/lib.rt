@@ -48,6 +48,7 @@ pub fn sum_within(a: u64, b: u64, limit: u64) -> bool
 }
 
 // Whether the target of a branch lies at or below the length; below 0 it does.
+#[tactic(auto, using(crate::proofs::Targets::back, crate::proofs::Targets::back_past))]
 fn is_not_past(pcc: Cap, words: u64) -> bool
     ensures { result ≡ not_past pcc.offset.0 (bytes_off words) pcc.length }
 {

@@ -109,6 +109,7 @@ pub fn access_bit(register: u8) -> u32
 }
 
 // Whether a PCC with these permissions may name a capability register.
+#[tactic(auto, using(std::proofs::lemmas::Bool::Decides::nat_tests), unfolding(manual::specs::Cap::register_open))]
 pub fn register_open(perms: u32, register: u8) -> bool
     ensures { result ≡ register_open perms register }
 {

@@ -67,6 +67,7 @@ fn line_in(body: &[u8], ram: usize) -> Entry
 }
 
 // What a body says, for a RAM of so many bytes: an unknown kind comes before a wrong length.
+#[tactic(auto, using(std::proofs::lemmas::Bool::Decides::nat_tests), unfolding(pages::specs::Entry::entry_of))]
 pub fn entry_in(body: &[u8], ram: usize) -> Entry
     ensures { result ≡ entry_of body.now ram }
 {

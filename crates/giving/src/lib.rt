@@ -42,6 +42,7 @@ fn put_generals(general: [u64; 32], out: &mut [u8])
 }
 
 // Every register, zero or not, from byte 0 on; nothing where they do not fit.
+#[tactic(auto, using(pages::proofs::Registers::registers_out))]
 pub fn put_registers(m: Machine, out: &mut [u8])
     ensures { out.new ≡ put out.old 0 (registers_of m) }
 {

@@ -44,7 +44,7 @@ pub fn if_zero(field: u32, i: Instr) -> Instr
 }
 
 // Whether a word counts as a branch or a jump, whatever its unused fields hold.
-#[tactic(auto, unfolding(manual::specs::Decode::lookup, manual::specs::Decode::is_jump_word))]
+#[tactic(auto, using(std::proofs::lemmas::Bool::Decides::nat_tests), unfolding(manual::specs::Decode::lookup, manual::specs::Decode::is_jump_word))]
 pub fn is_jump_word(word: u32) -> bool
     ensures { result ≡ is_jump_word word }
 {

@@ -22,7 +22,7 @@ key_of (Entry.Refused refusal) = 0
 
 -- kinds ascend; within a kind the number or address strictly ascends
 unfoldable pub in_order : ℕ → ℕ → ℕ → ℕ → Bool
-in_order kind key next nextKey = cond (ltb kind next) true (cond (eqb kind next) (ltb key nextKey) false)
+in_order kind key next next_key = cond (ltb kind next) true (cond (eqb kind next) (ltb key next_key) false)
 
 -- 33 comes after every other refusal of the record
 abbrev pub ordered_step : ℕ → Entry → ℕ → ℕ → Step

@@ -18,6 +18,7 @@ pub fn next_pcc(pcc: Cap, pending: Pending) -> Cap
 }
 
 // General register 0 stays 0.
+#[tactic(auto, using(std::proofs::lemmas::Bool::Decides::nat_tests))]
 pub fn kept_zero(rd: usize, value: u64) -> u64
     ensures { result ≡ kept rd value }
 {

@@ -7,6 +7,7 @@ ghost use Rattle.manual.specs.Store.{bit, tag_of, tag_at, with_tag};
 use manual::{LINE, Place};
 
 // The tag of a line; a line past the last has none.
+#[tactic(auto, using(std::proofs::lemmas::Bool::Decides::nat_tests), unfolding(manual::specs::Store::tag_of))]
 pub fn tag_of(tags: &[u8], line: usize) -> bool
     ensures { result ≡ tag_of tags.now line }
 {

@@ -1,7 +1,7 @@
 use Prim.Native.Nat.{◌-◌}
 use mathlib.Core.Path.{sym, ap, ◌∙◌}
 use native.Mathlib.Omega.{arith}
-use borrow.Author.Tests.{eq-eqb, ne_eqb}
+use borrow.Author.Tests.{eq-eqb}
 use lib.ListN.{length}
 use Rattle.pages.specs.Book.{walk, check_book}
 use Rattle.pages.proofs.Walks.{more_fits, walk_done, walk_refused, walk_more, check_start}
@@ -11,12 +11,8 @@ pub returns-then-book-eq0 : goal.returns-then-book-eq0
 unfolding check_book
 returns-then-book-eq0 c = rw (eq-eqb _ _ c.if-book-eq0.true)
 
-pub returns-then-book-ne1 : goal.returns-then-book-ne1
-unfolding check_book
-returns-then-book-ne1 c = rw (ne_eqb _ _ c.if-book-eq0.false, ne_eqb _ _ c.if-book-ne1.true)
-
 pub loop-refusal-init : goal.loop-refusal-init
-loop-refusal-init c = let a = c.args in (length a.book.now, omega arith, check_start a.book.now a.ram c.if-book-eq0.false c.if-book-ne1.false)
+loop-refusal-init c = let a = c.args in (length a.book.now, omega arith, check_start a.book.now a.ram c.if-book-eq0.false (omega arith))
 
 pub returns-in-Done : goal.returns-in-Done
 returns-in-Done c = let v = c.loop-refusal.invariant in sym (walk_done v.0 _ _) ∙ ap (walk v.0 _ _) (sym c.in-Done.is ∙ c.step_at-step.ensures) ∙ v.2

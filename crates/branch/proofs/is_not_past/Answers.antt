@@ -1,5 +1,4 @@
-use native.Mathlib.Omega.{arith}
-use Rattle.branch.proofs.Targets.{forward, far, back, back_past}
+use Rattle.branch.proofs.Targets.{forward, far}
 use Rattle.branch.proofs.is_not_past.Goals as goal
 
 pub returns-then-bytes-length : goal.returns-then-bytes-length
@@ -7,12 +6,3 @@ returns-then-bytes-length c = rw (← c.bytes_off-bytes.ensures) (forward _ _ _ 
 
 pub returns-then-bytes-lt9223372036854775808 : goal.returns-then-bytes-lt9223372036854775808
 returns-then-bytes-lt9223372036854775808 c = rw (← c.bytes_off-bytes.ensures) (far _ _ _ c.if-bytes-lt9223372036854775808.true c.if-bytes-length.false)
-
-pub returns-then-pc-length : goal.returns-then-pc-length
-returns-then-pc-length c = rw (← c.bytes_off-bytes.ensures) (back _ _ _ c.if-bytes-lt9223372036854775808.false (omega arith))
-
-pub returns-then-pc-length-2 : goal.returns-then-pc-length-2
-returns-then-pc-length-2 c = rw (← c.bytes_off-bytes.ensures) (back _ _ _ c.if-bytes-lt9223372036854775808.false (omega arith))
-
-pub returns-else-pc-length-2 : goal.returns-else-pc-length-2
-returns-else-pc-length-2 c = rw (← c.bytes_off-bytes.ensures) (back_past _ _ _ c.if-bytes-lt9223372036854775808.false (omega arith))
