@@ -1,4 +1,3 @@
-use borrow.Author.Rules.{rules}
 use Rattle.pommerzil.proofs.Laws.{told}
 use Rattle.pommerzil.proofs.pommerzil_write.Goals as goal
 
