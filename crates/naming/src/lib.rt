@@ -22,6 +22,7 @@ pub fn name_cap(number: u8, c: Cap, out: &mut [u8], at: usize) -> usize
 }
 
 // A general register, in the same way.
+#[tactic(auto, using(std::proofs::lemmas::Bool::Decides::nat_tests, pages::proofs::Fields::put_nothing), unfolding(pages::specs::Naming::general_piece))]
 pub fn name_general(number: u8, value: u64, out: &mut [u8], at: usize) -> usize
     ensures value { result ≡ length (general_piece number value) }
     ensures out_after { out.new ≡ put out.old at (general_piece number value) }

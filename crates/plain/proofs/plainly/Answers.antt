@@ -39,19 +39,19 @@ returns-in-25 c = rw (c.in-25.is, ← c.signed_16-x.ensures) (λ o s. immediate_
 pub returns-in-36 : goal.returns-in-36
 unfolding lookup majors decode_word plan_of register_open
 returns-in-36 c = rw (c.in-36.is, ← c.signed_16-x.ensures, c.sets_loaded.ensures, c.loaded.ensures)
-    (λ o s. load_means o _ _ _ _ Size.One c.signed_16-x.result c.args.n20 o.pcc (record { number = 0; cap = c.args.c0 }) c.args.g25 _ (rw (s.is_n20, s.is_c0, s.is_g25)) (c.reached-at.ensures o.pcc 0 refl))
+    (λ o s. load_means o _ c.args.flash.now c.args.ram.now c.args.tags.now Size.One c.signed_16-x.result c.args.n20 o.pcc (record { number = 0; cap = c.args.c0 }) c.args.g25 c.reached-at.result (rw (s.is_n20, s.is_c0, s.is_g25)) (c.reached-at.ensures o.pcc 0 refl))
 
 pub returns-in-40 : goal.returns-in-40
 unfolding lookup majors decode_word plan_of register_open
 returns-in-40 c = rw (c.in-40.is, ← c.signed_16-x.ensures, c.sets_stored.ensures, c.stored.ensures.value, c.stored.ensures.ram_after, c.stored.ensures.tags_after)
-    (λ o s. store_means o _ _ _ _ Size.One c.signed_16-x.result c.args.g20 o.pcc (record { number = 0; cap = c.args.c0 }) c.args.g25 _ (rw (s.is_g20, s.is_c0, s.is_g25)) (c.reached-at-in-40.ensures o.pcc 0 refl))
+    (λ o s. store_means o _ c.args.flash.now c.args.ram.now c.args.tags.now Size.One c.signed_16-x.result c.args.g20 o.pcc (record { number = 0; cap = c.args.c0 }) c.args.g25 c.reached-at-in-40.result (rw (s.is_g20, s.is_c0, s.is_g25)) (c.reached-at-in-40.ensures o.pcc 0 refl))
 
 pub returns-in-55 : goal.returns-in-55
 unfolding lookup majors decode_word plan_of register_open
 returns-in-55 c = rw (c.in-55.is, ← c.signed_16-x.ensures, c.sets_loaded-in-55.ensures, c.loaded-in-55.ensures)
-    (λ o s. load_means o _ _ _ _ Size.Eight c.signed_16-x.result c.args.n20 o.pcc (record { number = 0; cap = c.args.c0 }) c.args.g25 _ (rw (s.is_n20, s.is_c0, s.is_g25)) (c.reached-at-in-55.ensures o.pcc 0 refl))
+    (λ o s. load_means o _ c.args.flash.now c.args.ram.now c.args.tags.now Size.Eight c.signed_16-x.result c.args.n20 o.pcc (record { number = 0; cap = c.args.c0 }) c.args.g25 c.reached-at-in-55.result (rw (s.is_n20, s.is_c0, s.is_g25)) (c.reached-at-in-55.ensures o.pcc 0 refl))
 
 pub returns-in-63 : goal.returns-in-63
 unfolding lookup majors decode_word plan_of register_open
 returns-in-63 c = rw (c.in-63.is, ← c.signed_16-x.ensures, c.sets_stored-in-63.ensures, c.stored-in-63.ensures.value, c.stored-in-63.ensures.ram_after, c.stored-in-63.ensures.tags_after)
-    (λ o s. store_means o _ _ _ _ Size.Eight c.signed_16-x.result c.args.g20 o.pcc (record { number = 0; cap = c.args.c0 }) c.args.g25 _ (rw (s.is_g20, s.is_c0, s.is_g25)) (c.reached-at-in-63.ensures o.pcc 0 refl))
+    (λ o s. store_means o _ c.args.flash.now c.args.ram.now c.args.tags.now Size.Eight c.signed_16-x.result c.args.g20 o.pcc (record { number = 0; cap = c.args.c0 }) c.args.g25 c.reached-at-in-63.result (rw (s.is_g20, s.is_c0, s.is_g25)) (c.reached-at-in-63.ensures o.pcc 0 refl))
