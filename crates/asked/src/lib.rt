@@ -41,5 +41,5 @@ pub fn bench_numbers() -> [usize; 4]
 pub fn bench_fits(book: usize, ram: usize) -> bool
     ensures { result ≡ bench_fits book ram }
 {
-    checks::both(book <= FILE_MOST, ram == BENCH_RAM)
+    book <= FILE_MOST && ram == BENCH_RAM
 }

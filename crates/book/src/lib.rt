@@ -2,108 +2,77 @@
 #![tactic(auto)]
 
 ghost use Rattle.std.specs.Prelude.{◌≡◌};
-ghost use Rattle.pages.specs.Book.{kind_of, key_of, in_order, ordered_step, after_entry, step_at, check_book};
+ghost use Rattle.pages.specs.Book.{kind_of, key_of, in_order, step_at, check_book};
 
-use manual::{Refusal, Verdict};
-use pages::{Entry, Head, Step};
+use manual::Refusal;
+use pages::{Body, Entry, Record};
 
-// The kind of a record.
-pub fn kind_of(entry: Entry) -> u8
-    ensures { result ≡ kind_of entry }
+// What the order of a book goes by: kinds ascend, and within a kind the number or address does, strictly. The kind is a record's first byte.
+#[derive(Clone, Copy, PartialEq, Eq, PartialOrd, Ord)]
+pub struct Rank {
+    pub kind: u8,
+    pub key: u64,
+}
+
+// The rank before every record's.
+pub const FIRST: Rank = Rank { kind: 0, key: 0 };
+
+// The kind of a record, and its number or address.
+pub fn rank_of(entry: Entry) -> Rank
+    ensures { (result.kind ≡ kind_of entry) × (result.key ≡ key_of entry) }
 {
     match entry {
-        Entry::Capability(_, _) => 1,
-        Entry::General(_, _) => 2,
-        Entry::Line(_, _) => 3,
-        Entry::Refused(_) => 0,
+        Entry::Capability(number, _) => Rank {
+            kind: 1,
+            key: u64::from(number),
+        },
+        Entry::General(number, _) => Rank {
+            kind: 2,
+            key: u64::from(number),
+        },
+        Entry::Line(address, _) => Rank {
+            kind: 3,
+            key: address,
+        },
     }
 }
 
-// Its number or address.
-pub fn key_of(entry: Entry) -> u64
-    ensures { result ≡ key_of entry }
+#[tactic(auto, using(std::proofs::lemmas::Bool::Decides::nat_tests), unfolding(pages::specs::Book::in_order))]
+fn in_order(before: Rank, next: Rank) -> bool
+    ensures { result ≡ in_order before.kind before.key next.kind next.key }
 {
-    match entry {
-        Entry::Capability(number, _) => number as u64,
-        Entry::General(number, _) => number as u64,
-        Entry::Line(address, _) => address,
-        Entry::Refused(_) => 0,
-    }
+    before < next
 }
 
-// Kinds ascend, and within a kind the number or address does, strictly.
-fn in_order(kind: u8, key: u64, next: u8, found: u64) -> bool
-    ensures { result ≡ in_order kind key next found }
+// The record at a place, after one of this rank, for a RAM of so many bytes: none at the book's end; 33 is the last test.
+#[tactic(auto, unfolding(pages::specs::Book::step_at, pages::specs::Book::after_head, pages::specs::Book::after_entry))]
+pub fn step_at(book: &[u8], ram: usize, at: usize, before: Rank) -> Result<Option<Record>, Refusal>
+    ensures { result ≡ step_at book.now ram at before.kind before.key }
 {
-    if kind < next {
-        return true;
+    let Some(Body { start, bytes }) = reader::record_at(book, at)? else {
+        return Ok(None);
+    };
+    let end = start + bytes;
+    let entry = entry::entry_in(&book[start..end], ram)?;
+    if !in_order(before, rank_of(entry)) {
+        return Err(Refusal::Order);
     }
-    if kind != next {
-        return false;
-    }
-    if key < found { true } else { false }
-}
-
-// 33, the last test of a record.
-fn ordered(end: usize, entry: Entry, kind: u8, key: u64) -> Step
-    ensures { result ≡ ordered_step end entry kind key }
-{
-    if in_order(kind, key, kind_of(entry), key_of(entry)) {
-        return Step::More(end, entry);
-    }
-    Step::Refused(Refusal::Order)
-}
-
-fn after_entry(end: usize, entry: Entry, kind: u8, key: u64) -> Step
-    ensures { result ≡ after_entry end entry kind key }
-{
-    match entry {
-        Entry::Refused(refusal) => Step::Refused(refusal),
-        Entry::Capability(_, _) => ordered(end, entry, kind, key),
-        Entry::General(_, _) => ordered(end, entry, kind, key),
-        Entry::Line(_, _) => ordered(end, entry, kind, key),
-    }
-}
-
-// The record at a place, after one of this kind and key, for a RAM of so many bytes.
-pub fn step_at(book: &[u8], ram: usize, at: usize, kind: u8, key: u64) -> Step
-    ensures { result ≡ step_at book.now ram at kind key }
-{
-    let head = reader::record_at(book, at);
-    match head {
-        Head::End => Step::Done,
-        Head::Cut => Step::Refused(Refusal::Cut),
-        Head::Body(start, bytes) => {
-            let end = start + bytes;
-            after_entry(end, entry::entry_in(&book[start..end], ram), kind, key)
-        }
-    }
+    Ok(Some(Record { end, entry }))
 }
 
 // The verdict on a book, for a RAM of so many bytes: 30, then the first faulty record.
 #[tactic(auto, using(std::proofs::lemmas::Bool::Decides::nat_tests), unfolding(pages::specs::Book::check_book))]
-pub fn check(book: &[u8], ram: usize) -> Verdict
+pub fn check(book: &[u8], ram: usize) -> Result<(), Refusal>
     ensures { result ≡ check_book book.now ram }
 {
-    if book.len() == 0 {
-        return Verdict::Refused(Refusal::Version);
-    }
-    if book[0] != 1 {
-        return Verdict::Refused(Refusal::Version);
+    if book.len() == 0 || book[0] != 1 {
+        return Err(Refusal::Version);
     }
     let mut at = 1;
-    let mut kind: u8 = 0;
-    let mut key: u64 = 0;
-    loop {
-        let step = step_at(book, ram, at, kind, key);
-        match step {
-            Step::Done => return Verdict::Accepted,
-            Step::Refused(refusal) => return Verdict::Refused(refusal),
-            Step::More(end, entry) => {
-                at = end;
-                kind = kind_of(entry);
-                key = key_of(entry);
-            }
-        }
+    let mut before = FIRST;
+    while let Some(Record { end, entry }) = step_at(book, ram, at, before)? {
+        at = end;
+        before = rank_of(entry);
     }
+    Ok(())
 }

@@ -5,13 +5,13 @@ ghost use Rattle.std.specs.Prelude.{◌≡◌, ◌+◌, leb};
 ghost use Rattle.manual.specs.Checks.{settle};
 ghost use Rattle.manual.specs.Branch.{wanted, bytes_off, branch_offset, branch_to, not_past, branch, branch_tag};
 
-use manual::{Cap, Check, Effect, LENGTH, NO_REGISTER, Named, Offset, Planned};
+use manual::{Cap, Effect, Fault, LENGTH, NO_REGISTER, Named, Offset};
 
 // Whether the branch is taken: its test came out as it wants.
 pub fn is_wanted(want: bool, test: bool) -> bool
     ensures { result ≡ wanted want test }
 {
-    if want { test } else { !test }
+    want == test
 }
 
 // 4 * sign_extend(offset) of a branch, as 64 bits.
@@ -22,6 +22,7 @@ fn bytes_off(words: u64) -> u64
 }
 
 // The target of a branch: so many words from the slot.
+#[tactic(auto, unfolding(manual::specs::Number::moved_by))]
 pub fn branch_offset(pc: Offset, words: u64) -> Offset
     ensures { result ≡ branch_offset pc words }
 {
@@ -29,6 +30,7 @@ pub fn branch_offset(pc: Offset, words: u64) -> Offset
 }
 
 // PCC with the target as its offset.
+#[tactic(auto, unfolding(manual::specs::Branch::branch_to))]
 fn branch_target(pcc: Cap, words: u64) -> Cap
     ensures { result ≡ branch_to pcc words }
 {
@@ -37,18 +39,15 @@ fn branch_target(pcc: Cap, words: u64) -> Cap
 }
 
 // a + b <= limit, exactly.
+#[tactic(auto, using(std::proofs::lemmas::Bool::Decides::nat_tests))]
 pub fn sum_within(a: u64, b: u64, limit: u64) -> bool
     ensures { result ≡ leb (a + b) limit }
 {
-    if a <= limit {
-        if b <= limit - a { true } else { false }
-    } else {
-        false
-    }
+    a.checked_add(b).is_some_and(|sum| sum <= limit)
 }
 
 // Whether the target of a branch lies at or below the length; below 0 it does.
-#[tactic(auto, using(crate::proofs::Targets::back, crate::proofs::Targets::back_past))]
+#[tactic(auto, using(std::proofs::lemmas::Bool::Decides::nat_tests), unfolding(manual::specs::Branch::not_past))]
 fn is_not_past(pcc: Cap, words: u64) -> bool
     ensures { result ≡ not_past pcc.offset.0 (bytes_off words) pcc.length }
 {
@@ -56,41 +55,32 @@ fn is_not_past(pcc: Cap, words: u64) -> bool
     let length = pcc.length;
     let bytes = bytes_off(words);
     if bytes < 0x8000_0000_0000_0000 {
-        if bytes <= length {
-            return sum_within(pc, 4, length - bytes);
-        }
-        return false;
+        return bytes <= length && sum_within(pc, 4, length - bytes);
     }
-    if pc <= length {
-        return true;
-    }
-    if pc - length <= u64::MAX - bytes - 3 {
-        true
-    } else {
-        false
-    }
+    pc <= length || pc - length <= u64::MAX - bytes - 3
 }
 
 // BEQ and BNE.
-pub fn plan_branch(equal: bool, words: u64, pcc: Cap, rs: u64, rt: u64) -> Planned
+#[tactic(auto, unfolding(manual::specs::Branch::branch, manual::specs::Checks::settle))]
+pub fn plan_branch(equal: bool, words: u64, pcc: Cap, rs: u64, rt: u64) -> Result<Effect, Fault>
     ensures { result ≡ settle (branch equal words pcc rs rt) }
 {
     if is_wanted(equal, rs == rt) {
-        Planned::Does(Effect::Jump(branch_target(pcc, words)))
+        Ok(Effect::Jump(branch_target(pcc, words)))
     } else {
-        Planned::Does(Effect::Nothing)
+        Ok(Effect::Nothing)
     }
 }
 
 // CBTS and CBTU.
-pub fn branch_tag(set: bool, words: u64, pcc: Cap, cb: Named) -> Planned
+#[tactic(auto, unfolding(manual::specs::Branch::branch_tag, manual::specs::Checks::settle))]
+pub fn branch_tag(set: bool, words: u64, pcc: Cap, cb: Named) -> Result<Effect, Fault>
     ensures { result ≡ settle (branch_tag set words pcc cb) }
 {
-    let k = checks::opened(Check::Passed, pcc.perms, cb.number);
-    if is_wanted(set, cb.cap.tag) {
-        let k = checks::that(k, is_not_past(pcc, words), LENGTH, NO_REGISTER);
-        checks::does(k, Effect::Jump(branch_target(pcc, words)))
-    } else {
-        checks::does(k, Effect::Nothing)
+    checks::opened(pcc.perms, cb.number)?;
+    if !is_wanted(set, cb.cap.tag) {
+        return Ok(Effect::Nothing);
     }
+    checks::that(is_not_past(pcc, words), LENGTH, NO_REGISTER)?;
+    Ok(Effect::Jump(branch_target(pcc, words)))
 }

@@ -6,6 +6,7 @@ ghost use Rattle.manual.specs.Cap.{permission_table, permitted, in_widths, acces
 
 use manual::Address;
 
+// The permissions of 004, by their numbers: no enum, since `permits` promises its answer for each number, past 31 too.
 pub const GLOBAL: u32 = 0;
 
 pub const EXECUTE: u32 = 1;
@@ -58,25 +59,18 @@ pub fn permission_table() -> [u32; 14]
 }
 
 // Whether a permissions field grants the permission of this number.
+#[tactic(auto, unfolding(manual::specs::Cap::permitted))]
 pub fn permits(perms: u32, number: u32) -> bool
     ensures { result ≡ permitted perms number }
 {
-    if number < 32 {
-        (perms >> number) % 2 == 1
-    } else {
-        false
-    }
+    number < 32 && (perms >> number) % 2 == 1
 }
 
 // Whether the fields that have no integer type of their own are within their widths.
 pub fn in_widths(perms: u32, otype: u32) -> bool
     ensures { result ≡ in_widths perms otype }
 {
-    if perms < 0x8000_0000 {
-        if otype < 0x100_0000 { true } else { false }
-    } else {
-        false
-    }
+    perms < 0x8000_0000 && otype < 0x100_0000
 }
 
 // Whether so many bytes from an address on end past 2^64.
@@ -84,17 +78,11 @@ pub fn past_top(base: Address, bytes: u64) -> bool
     ensures { result ≡ ltb (2 ^ 64) (base.0 + bytes) }
 {
     let b = base.0;
-    if b == 0 {
-        return false;
-    }
-    if u64::MAX - bytes < b - 1 {
-        true
-    } else {
-        false
-    }
+    b != 0 && u64::MAX - bytes < b - 1
 }
 
 // The permission of PCC that opens a register from C27 on.
+#[tactic(auto, unfolding(manual::specs::Cap::access_bit))]
 pub fn access_bit(register: u8) -> u32
     ensures { result ≡ access_bit register }
 {
@@ -113,9 +101,5 @@ pub fn access_bit(register: u8) -> u32
 pub fn register_open(perms: u32, register: u8) -> bool
     ensures { result ≡ register_open perms register }
 {
-    if register < 27 {
-        true
-    } else {
-        permits(perms, access_bit(register))
-    }
+    register < 27 || permits(perms, access_bit(register))
 }

@@ -1,5 +1,5 @@
 -- Instructions that look at capability registers: what their step writes is what the whole step's definition says.
-use Rattle.std.specs.Prelude.{ℕ, ◌≡◌, List}
+use Rattle.std.specs.Prelude.{ℕ, ◌≡◌, List, Option}
 use Rattle.manual.specs.declared.Cap.{Cap}
 use Rattle.manual.specs.declared.Instr.{Instr}
 use Rattle.manual.specs.declared.Named.{Named}
@@ -21,6 +21,6 @@ pub record Shows (o : Operands) (n25 n20 g25 g15 g10 : ℕ) (pcc k25 : Cap) (c20
   pub is_c20 : o.c20 ≡ c20
   pub is_c15 : o.c15 ≡ c15
 
-abbrev pub Capably : Instr → ℕ → ℕ → ℕ → ℕ → ℕ → Cap → Cap → Named → Named → List ℕ → List ℕ → List ℕ → List ℕ → List ℕ → Capable → Type 0
+abbrev pub Capably : Instr → ℕ → ℕ → ℕ → ℕ → ℕ → Cap → Cap → Named → Named → List ℕ → List ℕ → List ℕ → List ℕ → List ℕ → Option Capable → Type 0
 Capably i n25 n20 g25 g15 g10 pcc k25 c20 c15 flash ram tags ram' tags' r =
     (o : Operands) → Shows o n25 n20 g25 g15 g10 pcc k25 c20 c15 → Amounts o (settle (plan_of o i)) flash ram tags ram' tags' r

@@ -2,7 +2,6 @@
 // name.
 #![tactic(auto)]
 
-ghost use Rattle.std.specs.Prelude.{◌≡◌};
 ghost use Rattle.manual.specs.Decode.{decode_word};
 ghost use Rattle.capable.specs.Capable.{Capably};
 
@@ -24,7 +23,7 @@ pub fn capably(
     flash: &[u8],
     ram: &mut [u8],
     tags: &mut [u8],
-) -> Capable
+) -> Option<Capable>
     ensures { Capably (decode_word word) n25 n20 g25 g15 g10 pcc k25 c20 c15 flash.now ram.old tags.old ram.new tags.new result }
 {
     let near = immediate::signed_8(word);
@@ -50,6 +49,6 @@ pub fn capably(
             };
             carrying::store(far, cs, pcc, c20, g15, flash, ram, tags)
         }
-        _ => Capable::Other,
+        _ => None,
     }
 }

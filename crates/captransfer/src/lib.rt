@@ -6,42 +6,36 @@ ghost use Rattle.manual.specs.Cap.{permits, GLOBAL, STORE_LOCAL};
 ghost use Rattle.manual.specs.Checks.{settle};
 ghost use Rattle.manual.specs.Transfer.{may_store, c_lc, c_sc};
 
-use manual::{Access, Cap, Check, Effect, Fault, LENGTH, Named, Planned, Size};
+use manual::{Cap, Effect, Fault, LENGTH, Named, Size, Unfit};
 
-pub fn clc(immediate: u64, pcc: Cap, cd: u8, cb: Named, rt: u64) -> Planned
+#[tactic(auto, unfolding(manual::specs::Transfer::c_lc, manual::specs::Checks::finish, manual::specs::Checks::settle))]
+pub fn clc(immediate: u64, pcc: Cap, cd: u8, cb: Named, rt: u64) -> Result<Effect, Fault>
     ensures { result ≡ settle (c_lc immediate pcc cd cb rt) }
 {
-    let k = checks::opened(Check::Passed, pcc.perms, cd);
-    let k = transfer::through(k, pcc, cb, cap::LOAD_CAPABILITY);
-    let lies = access::test(cb.cap, rt, immediate, Size::Line);
-    match lies {
-        Access::At(at) => checks::does(k, Effect::LoadCapability(at, cd)),
-        Access::Length => checks::fails(k, Fault::Raise(LENGTH, cb.number)),
-        Access::Misaligned => checks::fails(k, Fault::Misaligned),
-    }
+    checks::opened(pcc.perms, cd)?;
+    transfer::through(pcc, cb, cap::LOAD_CAPABILITY)?;
+    let at = access::lies(cb, rt, immediate, Size::Line, Fault::Misaligned)?;
+    Ok(Effect::LoadCapability(at, cd))
 }
 
 // A local capability is stored only with the permission for it; data is neither local nor global.
+#[tactic(auto, unfolding(manual::specs::Transfer::may_store))]
 fn may_store(c: Cap, by: Cap) -> bool
     ensures { result ≡ may_store c by }
 {
     let local = cap::permits(by.perms, cap::STORE_LOCAL);
     let global = cap::permits(c.perms, cap::GLOBAL);
-    checks::either(local, checks::either(!c.tag, global))
+    local || !c.tag || global
 }
 
-pub fn csc(immediate: u64, pcc: Cap, cs: Named, cb: Named, rt: u64) -> Planned
+#[tactic(auto, unfolding(manual::specs::Transfer::c_sc, manual::specs::Checks::finish, manual::specs::Checks::settle))]
+pub fn csc(immediate: u64, pcc: Cap, cs: Named, cb: Named, rt: u64) -> Result<Effect, Fault>
     ensures { result ≡ settle (c_sc immediate pcc cs cb rt) }
 {
-    let k = checks::opened(Check::Passed, pcc.perms, cs.number);
-    let k = transfer::through(k, pcc, cb, cap::STORE_CAPABILITY);
+    checks::opened(pcc.perms, cs.number)?;
+    transfer::through(pcc, cb, cap::STORE_CAPABILITY)?;
     let cause = checks::lacking_cause(cap::STORE_LOCAL);
-    let k = checks::that(k, may_store(cs.cap, cb.cap), cause, cb.number);
-    let lies = access::test(cb.cap, rt, immediate, Size::Line);
-    let c = cs.cap;
-    match lies {
-        Access::At(at) => checks::does(k, Effect::StoreCapability(at, c)),
-        Access::Length => checks::fails(k, Fault::Raise(LENGTH, cb.number)),
-        Access::Misaligned => checks::fails(k, Fault::StoreMisaligned),
-    }
+    checks::that(may_store(cs.cap, cb.cap), cause, cb.number)?;
+    let at = access::lies(cb, rt, immediate, Size::Line, Fault::StoreMisaligned)?;
+    Ok(Effect::StoreCapability(at, cs.cap))
 }

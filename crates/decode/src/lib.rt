@@ -75,7 +75,7 @@ pub fn store(word: u32, offset: u64) -> Instr
 pub fn decode(word: u32) -> Instr
     ensures { result ≡ decode_word word }
 {
-    let low = (word % 0x1_0000) as u64;
+    let low = u64::from(word % 0x1_0000);
     let signed = immediate::signed_16(word);
     let near = immediate::signed_8(word);
     let far = immediate::signed_11(word);

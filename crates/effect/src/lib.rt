@@ -1,66 +1,41 @@
 // The one effect of an instruction whose checks have passed, carried out.
 #![tactic(auto)]
 
-ghost use Rattle.std.specs.Prelude.{◌≡◌};
-ghost use Rattle.manual.specs.Perform.{to_general, to_capability, loaded_turn, stored_turn, cap_turn, turn_of, ram_of, tags_of};
+ghost use Rattle.std.specs.Prelude.{◌≡◌, Ok};
+ghost use Rattle.manual.specs.Perform.{to_general, to_capability, turn_of, ram_of, tags_of};
 
-use manual::{Cap, Change, Effect, Fault, Loaded, LoadedCap, Pending, Size, Stored, Turn};
+use manual::{Cap, Change, Effect, Fault};
 
-fn writes_general(c0: Cap, cause: u16, rd: u8, value: u64) -> Turn
-    ensures { result ≡ Turn.Next (to_general c0 cause rd value) }
+// One general register; register 0 where there is none.
+fn to_general(c0: Cap, cause: u16, rd: u8, value: u64) -> Change
+    ensures { result ≡ to_general c0 cause rd value }
 {
-    Turn::Next(Change {
+    Change {
         rd,
         value,
         cd: 0,
         cap: c0,
         cause,
-        jump: Pending::Quiet,
-    })
+        jump: None,
+    }
 }
 
-fn writes_capability(cause: u16, cd: u8, c: Cap, jump: Pending) -> Turn
-    ensures { result ≡ Turn.Next (to_capability cause cd c jump) }
+// One capability register, and the jump; C0 as it was where there is none.
+fn to_capability(cause: u16, cd: u8, cap: Cap, jump: Option<Cap>) -> Change
+    ensures { result ≡ to_capability cause cd cap jump }
 {
-    Turn::Next(Change {
+    Change {
         rd: 0,
         value: 0,
         cd,
-        cap: c,
+        cap,
         cause,
         jump,
-    })
-}
-
-fn after_load(c0: Cap, cause: u16, signed: bool, size: Size, rd: u8, loaded: Loaded) -> Turn
-    ensures { result ≡ loaded_turn c0 cause signed size rd loaded }
-{
-    match loaded {
-        Loaded::Value(v) => writes_general(c0, cause, rd, num::extend(signed, size, v)),
-        Loaded::Nowhere => Turn::Stops(Fault::Nowhere),
-    }
-}
-
-fn after_store(c0: Cap, cause: u16, stored: Stored) -> Turn
-    ensures { result ≡ stored_turn c0 cause stored }
-{
-    match stored {
-        Stored::Done => writes_general(c0, cause, 0, 0),
-        Stored::Flash => Turn::Stops(Fault::IntoFlash),
-        Stored::Nowhere => Turn::Stops(Fault::Nowhere),
-    }
-}
-
-fn after_load_capability(cause: u16, cd: u8, loaded: LoadedCap) -> Turn
-    ensures { result ≡ cap_turn cause cd loaded }
-{
-    match loaded {
-        LoadedCap::Value(c) => writes_capability(cause, cd, c, Pending::Quiet),
-        LoadedCap::Nowhere => Turn::Stops(Fault::Nowhere),
     }
 }
 
 // What the step writes, and the RAM and the tags that it leaves.
+#[tactic(auto, unfolding(manual::specs::Perform::turn_of, manual::specs::Perform::ram_of, manual::specs::Perform::tags_of))]
 pub fn carry_out(
     c0: Cap,
     cause: u16,
@@ -68,33 +43,33 @@ pub fn carry_out(
     flash: &[u8],
     ram: &mut [u8],
     tags: &mut [u8],
-) -> Turn
+) -> Result<Change, Fault>
     ensures value { result ≡ turn_of c0 cause flash.now ram.old tags.old effect }
     ensures ram_after { ram.new ≡ ram_of flash.now ram.old effect }
     ensures tags_after { tags.new ≡ tags_of flash.now ram.old tags.old effect }
 {
     match effect {
-        Effect::Nothing => writes_general(c0, cause, 0, 0),
-        Effect::General(rd, value) => writes_general(c0, cause, rd, value),
-        Effect::Capability(cd, c) => writes_capability(cause, cd, c, Pending::Quiet),
-        Effect::Cause(n) => writes_general(c0, n, 0, 0),
-        Effect::Jump(target) => writes_capability(cause, 0, c0, Pending::Jump(target)),
-        Effect::Link(cd, link, target) => writes_capability(cause, cd, link, Pending::Jump(target)),
+        Effect::Nothing => Ok(to_general(c0, cause, 0, 0)),
+        Effect::General(rd, value) => Ok(to_general(c0, cause, rd, value)),
+        Effect::Capability(cd, c) => Ok(to_capability(cause, cd, c, None)),
+        Effect::Cause(n) => Ok(to_general(c0, n, 0, 0)),
+        Effect::Jump(target) => Ok(to_capability(cause, 0, c0, Some(target))),
+        Effect::Link(cd, link, target) => Ok(to_capability(cause, cd, link, Some(target))),
         Effect::Load(size, signed, at, rd) => {
-            after_load(c0, cause, signed, size, rd, mem::load(flash, ram, at, size))
+            let value = mem::load(flash, ram, at, size).ok_or(Fault::Nowhere)?;
+            Ok(to_general(c0, cause, rd, num::extend(signed, size, value)))
         }
         Effect::Store(size, at, value) => {
-            after_store(
-                c0,
-                cause,
-                store::store(flash.len(), ram, tags, at, size, value),
-            )
+            store::store(flash.len(), ram, tags, at, size, value)?;
+            Ok(to_general(c0, cause, 0, 0))
         }
         Effect::LoadCapability(at, cd) => {
-            after_load_capability(cause, cd, line::load(flash, ram, tags, at))
+            let c = line::load(flash, ram, tags, at).ok_or(Fault::Nowhere)?;
+            Ok(to_capability(cause, cd, c, None))
         }
         Effect::StoreCapability(at, c) => {
-            after_store(c0, cause, capstore::store(flash.len(), ram, tags, at, c))
+            capstore::store(flash.len(), ram, tags, at, c)?;
+            Ok(to_general(c0, cause, 0, 0))
         }
     }
 }

@@ -4,9 +4,9 @@
 ghost use Rattle.std.specs.Prelude.{◌≡◌, ◌≤◌, length};
 ghost use Rattle.pages.specs.Entering.{zero_machine, with_capability, with_general, machine_with, ram_with, tags_with, enter_book, bare, RegisterIsThere, LineIsThere};
 
-use manual::{Cap, LINE, Machine, Pending};
+use manual::{Cap, LINE, Machine};
 use mem::RAM_BASE;
-use pages::{Entry, PCC, Step};
+use pages::{Entry, PCC, Record};
 
 // The machine of which no register is named.
 pub fn zero_machine() -> Machine
@@ -17,12 +17,13 @@ pub fn zero_machine() -> Machine
         general: [0; 32],
         caps: [c; 32],
         pcc: c,
-        pending: Pending::Quiet,
+        pending: None,
         cause: 0,
     }
 }
 
 // Kind 1: a capability register, or PCC.
+#[tactic(auto, using(std::proofs::lemmas::Bool::Decides::nat_tests))]
 fn with_capability(mut m: Machine, number: u8, c: Cap) -> Machine
     requires { number ≤ 32 }
     ensures { result ≡ with_capability m number c }
@@ -30,8 +31,7 @@ fn with_capability(mut m: Machine, number: u8, c: Cap) -> Machine
     if number == PCC {
         m.pcc = c;
     } else {
-        let i = number as usize;
-        m.caps[i] = c;
+        m.caps[usize::from(number)] = c;
     }
     m
 }
@@ -41,12 +41,12 @@ fn with_general(mut m: Machine, number: u8, value: u64) -> Machine
     requires { number ≤ 31 }
     ensures { result ≡ with_general m number value }
 {
-    let i = number as usize;
-    m.general[i] = value;
+    m.general[usize::from(number)] = value;
     m
 }
 
 // The registers with what a record says.
+#[tactic(auto, unfolding(pages::specs::Entering::machine_with))]
 fn with_entry(m: Machine, entry: Entry) -> Machine
     requires { RegisterIsThere entry }
     ensures { result ≡ machine_with entry m }
@@ -55,31 +55,24 @@ fn with_entry(m: Machine, entry: Entry) -> Machine
         Entry::Capability(number, c) => with_capability(m, number, c),
         Entry::General(number, value) => with_general(m, number, value),
         Entry::Line(_, _) => m,
-        Entry::Refused(_) => m,
     }
 }
 
 // Kind 3: the record's last 32 bytes over the line that it names, and that line's tag.
+#[tactic(auto, unfolding(pages::specs::Entering::ram_with, pages::specs::Entering::tags_with))]
 fn put_entry(book: &[u8], end: usize, entry: Entry, ram: &mut [u8], tags: &mut [u8])
     requires { LineIsThere book.now end entry (length ram.old) }
     ensures ram_after { ram.new ≡ ram_with book.now end entry ram.old }
     ensures tags_after { tags.new ≡ tags_with entry tags.old }
 {
-    match entry {
-        Entry::Line(address, tag) => {
-            let at = (address - RAM_BASE) as usize;
-            let e = at + LINE;
-            let start = end - LINE;
-            ram[at..e].copy_from_slice(&book[start..end]);
-            tags::with_tag(tags, at / LINE, tag);
-        }
-        Entry::Capability(_, _) => {}
-        Entry::General(_, _) => {}
-        Entry::Refused(_) => {}
+    if let Entry::Line(address, tag) = entry {
+        let at = (address - RAM_BASE) as usize;
+        ram[at..at + LINE].copy_from_slice(&book[end - LINE..end]);
+        tags::with_tag(tags, at / LINE, tag);
     }
 }
 
-// Every record of a book in turn, over an all-zero machine and the memories as they are.
+// Every record of a book in turn, up to its end or its first refusal, over an all-zero machine and the memories as they are.
 pub fn enter_all(book: &[u8], ram: &mut [u8], tags: &mut [u8]) -> Machine
     ensures value { result ≡ (enter_book book.now (bare ram.old tags.old)).machine }
     ensures ram_after { ram.new ≡ (enter_book book.now (bare ram.old tags.old)).ram }
@@ -88,20 +81,12 @@ pub fn enter_all(book: &[u8], ram: &mut [u8], tags: &mut [u8]) -> Machine
     let size = ram.len();
     let mut machine = zero_machine();
     let mut at = 1;
-    let mut kind: u8 = 0;
-    let mut key: u64 = 0;
-    loop {
-        let step = book::step_at(book, size, at, kind, key);
-        match step {
-            Step::Done => return machine,
-            Step::Refused(_) => return machine,
-            Step::More(end, entry) => {
-                machine = with_entry(machine, entry);
-                put_entry(book, end, entry, ram, tags);
-                at = end;
-                kind = book::kind_of(entry);
-                key = book::key_of(entry);
-            }
-        }
+    let mut before = book::FIRST;
+    while let Ok(Some(Record { end, entry })) = book::step_at(book, size, at, before) {
+        machine = with_entry(machine, entry);
+        put_entry(book, end, entry, ram, tags);
+        at = end;
+        before = book::rank_of(entry);
     }
+    machine
 }

@@ -1,4 +1,5 @@
 -- The bench examples, computed. Assumes nothing.
+use Rattle.std.specs.Prelude.{Result, Ok, Err}
 use Prim.Native.Nat.{ℕ, ◌/◌}
 use mathlib.Core.Path.{◌≡◌, refl, ◌∙◌}
 use mathlib.Core.Bool.{Bool, true, false, cond, ◌&&◌}
@@ -27,7 +28,6 @@ use Rattle.manual.specs.declared.Refusal.{Refusal}
 use Rattle.pages.specs.Record.{body_at, head_at}
 use Rattle.pages.specs.Entry.{entry_of, general_of, is_line, line_of}
 use Rattle.pages.specs.Fields.{cap_of, capability_of}
-use Rattle.manual.specs.declared.Verdict.{Verdict}
 use Rattle.pages.specs.Book.{after_entry, after_head, check_book, in_order, step_at, walk}
 use Rattle.pages.specs.Entering.{bare, enter_all, enter_book, machine_with, ram_with, tags_with}
 use Rattle.pages.specs.Enter.{start_as, judged, read_book}
@@ -42,11 +42,11 @@ use Rattle.examples.specs.Claims.{BenchTable}
 use Rattle.granted.proofs.Read.{read_is_accepted}
 
 -- the answer to a verdict on a book, in RAM and tags of these sizes; a run of an accepted book is not judged again
-unfoldable answering : ℕ → ℕ → List ℕ → List ℕ → Verdict → Answer
-answering ram tags book flash Verdict.Accepted =
+unfoldable answering : ℕ → ℕ → List ℕ → List ℕ → Result (Unit {0}) Refusal → Answer
+answering ram tags book flash (Ok _) =
     let s = enter_all (length book) book ram (step_at book ram 1 0 0) (bare (replicate ram 0) (replicate tags 0)) in
     answer_of (run_from BUDGET 0 flash s.machine s.ram s.tags).outcome
-answering ram tags book flash (Verdict.Refused refusal) = refusing refusal
+answering ram tags book flash (Err refusal) = refusing refusal
 
 -- the bench's answer as it is computed here: the sizes are numbers, and no list is as long as its RAM until a byte of it is wanted
 unfoldable answer_in : ℕ → ℕ → List ℕ → List ℕ → Answer
@@ -55,19 +55,19 @@ answer_in ram tags book flash =
 
 module _ (book flash ram tags : List ℕ) where
   -- an accepted book sets all of RAM and all tags, and a run accepts it
-  started : (v : Verdict) → judged book (length flash) (length ram) (length tags) ≡ v
+  started : (v : Result (Unit {0}) Refusal) → judged book (length flash) (length ram) (length tags) ≡ v
       → (started_by BUDGET v flash (start_as v book ram tags)).answer ≡ answering (length ram) (length tags) book flash v
   unfolding answering run_of read_book enter_book
-  started Verdict.Accepted e =
+  started (Ok _) e =
       let h = rw e at (read_is_accepted book flash ram tags e) in
       rw (h, length-replicate)
-  started (Verdict.Refused refusal) e = refl
+  started (Err refusal) e = refl
 
   sized : length ram ≡ BENCH_RAM → (bench_of book flash ram tags).answer ≡ answer_in (length ram) (length tags) book flash
   unfolding bench_of book_run read_book answer_in
   sized e = go (leb (length book) FILE_MOST)
     where
-      v : Verdict
+      v : Result (Unit {0}) Refusal
       v = judged book (length flash) (length ram) (length tags)
 
       go : (fits : Bool)

@@ -11,11 +11,11 @@ use pages::{Entry, PCC};
 fn are_fields(number: u8, tag: u8, sealed: u8, top: u8) -> bool
     ensures { result ≡ (leb number 32 && (leb tag 1 && (leb sealed 1 && ltb top 128))) }
 {
-    let flags = checks::both(sealed <= 1, top < 128);
-    checks::both(number <= PCC, checks::both(tag <= 1, flags))
+    number <= PCC && tag <= 1 && sealed <= 1 && top < 128
 }
 
 // The capability of a body of 36 bytes.
+#[tactic(auto, unfolding(pages::specs::Fields::cap_of))]
 fn cap_in(body: &[u8]) -> Cap
     requires { length body.now ≡ 36 }
     ensures { result ≡ cap_of body.now }
@@ -40,19 +40,20 @@ fn cap_in(body: &[u8]) -> Cap
 }
 
 // Kind 1: a capability register, or PCC.
-pub fn capability_in(body: &[u8]) -> Entry
+#[tactic(auto, using(std::proofs::lemmas::Bool::Decides::nat_tests), unfolding(pages::specs::Fields::capability_of))]
+pub fn capability_in(body: &[u8]) -> Result<Entry, Refusal>
     ensures { result ≡ capability_of body.now }
 {
     if body.len() != 36 {
-        return Entry::Refused(Refusal::Cut);
+        return Err(Refusal::Cut);
     }
     let number = body[1];
-    if are_fields(number, body[2], body[3], body[8]) {
-        let c = cap_in(body);
-        if accept::top_fits(c) {
-            return Entry::Capability(number, c);
-        }
-        return Entry::Refused(Refusal::Top);
+    if !are_fields(number, body[2], body[3], body[8]) {
+        return Err(Refusal::Field);
     }
-    Entry::Refused(Refusal::Field)
+    let c = cap_in(body);
+    if !accept::top_fits(c) {
+        return Err(Refusal::Top);
+    }
+    Ok(Entry::Capability(number, c))
 }

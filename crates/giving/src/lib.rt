@@ -1,44 +1,46 @@
 // Every register of a machine as bytes, for a reader outside.
 #![tactic(auto)]
 
-ghost use Rattle.std.specs.Prelude.{◌≡◌};
+ghost use Rattle.std.specs.Prelude.{◌≡◌, ◌^◌, ◌≤◌};
 ghost use Rattle.manual.specs.Store.{put};
 ghost use Rattle.pages.specs.Runs.{Runs};
 ghost use Rattle.pages.specs.Registers.{cap_records, general_records, registers_of};
 
-use inscribe::{CAP_RECORD, GENERAL_RECORD};
 use manual::{Cap, Machine};
+use naming::{General, Recorded, Register};
 use pages::PCC;
 
-// Where the records of PCC and of general register 1 stand among the registers, and where the last one ends.
-const PCC_RECORD: usize = 1217;
-
-const GENERAL_RECORDS: usize = 1255;
-
+// Where the last record of the registers ends.
 pub const REGISTERS: usize = 1627;
 
 // C0 to C31, one record each.
-fn put_caps(caps: [Cap; 32], out: &mut [u8])
-    ensures { Runs out.old 1 (cap_records caps) out.new 1217 }
+fn put_caps(caps: &[Cap; 32], out: &mut [u8], at: usize) -> usize
+    requires { at ≤ 2 ^ 16 }
+    ensures { Runs out.old at (cap_records caps.now) out.new result }
 {
-    let mut i = 0;
-    while i < 32 {
-        let c = caps[i];
-        inscribe::put_cap(out, 1 + CAP_RECORD * i, i as u8, c);
-        i += 1;
-    }
+    let put = |i: usize, out: &mut [u8], end: usize| {
+        Register {
+            number: i as u8,
+            cap: caps[i],
+        }
+        .put(out, end)
+    };
+    naming::put_each(0..32, put, out, at)
 }
 
 // General registers 1 to 31, one record each.
-fn put_generals(general: [u64; 32], out: &mut [u8])
-    ensures { Runs out.old 1255 (general_records general) out.new 1627 }
+fn put_generals(general: &[u64; 32], out: &mut [u8], at: usize) -> usize
+    requires { at ≤ 2 ^ 16 }
+    ensures { Runs out.old at (general_records general.now) out.new result }
 {
-    let mut i = 0;
-    while i < 31 {
-        let at = GENERAL_RECORDS + GENERAL_RECORD * i;
-        i += 1;
-        inscribe::put_general(out, at, i as u8, general[i]);
-    }
+    let put = |i: usize, out: &mut [u8], end: usize| {
+        General {
+            number: i as u8,
+            value: general[i],
+        }
+        .put(out, end)
+    };
+    naming::put_each(1..32, put, out, at)
 }
 
 // Every register, zero or not, from byte 0 on; nothing where they do not fit.
@@ -49,11 +51,12 @@ pub fn put_registers(m: Machine, out: &mut [u8])
     if out.len() < REGISTERS {
         return;
     }
-    let caps = m.caps;
-    let pcc = m.pcc;
-    let general = m.general;
     store::put_be(out, 0, 1, 1);
-    put_caps(caps, out);
-    inscribe::put_cap(out, PCC_RECORD, PCC, pcc);
-    put_generals(general, out);
+    let caps = put_caps(&m.caps, out, 1);
+    let pcc = Register {
+        number: PCC,
+        cap: m.pcc,
+    };
+    let all = caps + pcc.put(out, caps);
+    put_generals(&m.general, out, all);
 }

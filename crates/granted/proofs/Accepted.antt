@@ -1,4 +1,5 @@
 -- A sound start is one that a run accepts. Assumes nothing.
+use Rattle.std.specs.Prelude.{Result, Ok, Err}
 use Prim.Native.Nat.{ℕ, zero, suc, ◌+◌, ◌*◌, ◌≤◌, ◌<◌}
 use mathlib.Core.Path.{◌≡◌, refl, ap}
 use mathlib.Core.Bool.{Bool, true, false, cond, not, ◌&&◌}
@@ -11,7 +12,6 @@ use Rattle.manual.specs.Store.{tag_of}
 use Rattle.manual.specs.declared.Cap.{Cap}
 use Rattle.manual.specs.Narrow.{null}
 use Rattle.manual.specs.declared.Refusal.{Refusal}
-use Rattle.manual.specs.declared.Verdict.{Verdict}
 use Rattle.manual.specs.Accept.{every, sizes_fit, tag_bytes_fit, top_fits, caps_fit, jump_fits, line_fits, lines_fit, width_fits, widths_fit, jump_width, verdict_of}
 use Rattle.pages.specs.Entering.{Start}
 use Rattle.manual.proofs.Accepted.{load_line}
@@ -27,8 +27,9 @@ both : (a b : Bool) → a ≡ true → b ≡ true → (a && b) ≡ true
 both a b p q = rw (p, q)
 
 tests : (a b d e : Bool) → a ≡ true → b ≡ true → d ≡ true → e ≡ true
-    → cond a (cond b (cond d (cond e Verdict.Accepted (Verdict.Refused Refusal.Width)) (Verdict.Refused Refusal.Top)) (Verdict.Refused Refusal.TagByte)) (Verdict.Refused Refusal.Sizes)
-    ≡ Verdict.Accepted
+    → ◌≡◌ {A = Result (Unit {0}) Refusal}
+    (cond a (cond b (cond d (cond e (Ok tt) (Err Refusal.Width)) (Err Refusal.Top)) (Err Refusal.TagByte)) (Err Refusal.Sizes))
+    (Ok tt)
 tests a b d e p q r t = rw (p, q, r, t)
 
 either : (t : Bool) → cond t true true ≡ true
@@ -62,6 +63,6 @@ module _ (flash lines : ℕ) (few : lines ≤ 2048) (fit : sizes_fit flash (line
       both _ _ (both _ _ (scan 32 0 (λ i. width_fits (get_or caps i null)) (λ i h. (g.registers.caps i).width))
       (both _ _ g.registers.pcc.width (ap jump_width g.registers.quiet))) (eq-eqb (get_or s.machine.general 0 0) 0 g.registers.first_zero)
 
-  pub accepted : verdict_of s.machine.caps s.machine.pcc s.machine.pending (get_or s.machine.general 0 0) flash s.ram s.tags ≡ Verdict.Accepted
+  pub accepted : verdict_of s.machine.caps s.machine.pcc s.machine.pending (get_or s.machine.general 0 0) flash s.ram s.tags ≡ (Ok tt)
   unfolding verdict_of
   accepted = tests _ _ _ _ sizes tag_bytes tops widths

@@ -1,4 +1,5 @@
 -- Where no register and no PCC is tagged, nothing is reached and the first fetch raises. Assumes nothing.
+use Rattle.std.specs.Prelude.{Option, Err, Some, None}
 use Prim.Native.Nat.{ℕ, ◌≤◌}
 use mathlib.Core.Path.{◌≡◌, refl, sym, ◌∙◌, ap, subst}
 use mathlib.Core.Bool.{Bool, true, false}
@@ -8,9 +9,6 @@ use lib.ListN.{length}
 use Rattle.manual.specs.declared.Cap.{Cap}
 use Rattle.manual.specs.Narrow.{null}
 use Rattle.manual.specs.declared.Fault.{Fault}
-use Rattle.manual.specs.declared.Pending.{Pending}
-use Rattle.manual.specs.declared.Turn.{Turn}
-use Rattle.manual.specs.declared.Fetched.{Fetched}
 use Rattle.manual.specs.Act.{planned_of}
 use Rattle.manual.specs.Fetch.{fetch_of}
 use Rattle.manual.specs.Accept.{sizes_fit}
@@ -31,10 +29,10 @@ use Rattle.granted.proofs.Read.{same, read_sound, read_is_accepted}
 not_both : (t : Bool) → t ≡ false → t ≡ true → ⊥
 not_both t f e = let z : ◌≡◌ {A = ℕ} 0 1 = cc in absurd (omega arith)
 
-no_jump : (p : Pending) (c : Cap) → p ≡ Pending.Quiet → p ≡ Pending.Jump c → ⊥
+no_jump : (p : Option Cap) (c : Cap) → p ≡ None → p ≡ Some c → ⊥
 no_jump p c q e = let z : ◌≡◌ {A = ℕ} 0 1 = cc in absurd (omega arith)
 
-module _ (m : Machine) (g : NoneTagged m) (q : m.pending ≡ Pending.Quiet) where
+module _ (m : Machine) (g : NoneTagged m) (q : m.pending ≡ None) where
   none_held : (c : Cap) → Held m c → c.tag ≡ true → ⊥
   none_held c (Held.in_register i h e) t = not_both (capability m i).tag (g.registers i h) (ap (λ (d : Cap). d.tag) e ∙ t)
   none_held c (Held.in_pcc e) t = not_both m.pcc.tag g.pcc (ap (λ (d : Cap). d.tag) e ∙ t)
@@ -45,12 +43,12 @@ module _ (m : Machine) (g : NoneTagged m) (q : m.pending ≡ Pending.Quiet) wher
   none x c (Reach.line i r p s t e) = none x _ r
 
 -- a fetch through an untagged PCC raises Tag, and names no register
-fetches : (flash ram : List ℕ) (pcc : Cap) → pcc.tag ≡ false → fetch_of flash ram pcc ≡ Fetched.Stops (Fault.Raise 2 255)
+fetches : (flash ram : List ℕ) (pcc : Cap) → pcc.tag ≡ false → fetch_of flash ram pcc ≡ Err (Fault.Raise 2 255)
 unfolding fetch_of
 fetches flash ram pcc e = rw e
 
 module _ (flash ram tags : List ℕ) (m : Machine) (e : m.pcc.tag ≡ false) where
-  turn : Turn.Stops (Fault.Raise 2 255) ≡ turn_at flash m ram tags
+  turn : Err (Fault.Raise 2 255) ≡ turn_at flash m ram tags
   unfolding turn_at planned_of
   turn = rw (fetches flash ram m.pcc e)
 
@@ -71,7 +69,7 @@ ran : (budget : ℕ) (flash : List ℕ) (s : Start) → StartAccepted flash s �
 unfolding run_of
 ran budget flash s e = rw e
 
-gives_nothing : (flash : List ℕ) (s : Start) → StartAccepted flash s → s.machine.pending ≡ Pending.Quiet → NoneTagged s.machine
+gives_nothing : (flash : List ℕ) (s : Start) → StartAccepted flash s → s.machine.pending ≡ None → NoneTagged s.machine
     → GivesNothing flash s s.machine.pcc.offset.0
 unfolding stopped_at run_from
 gives_nothing flash s a q g =

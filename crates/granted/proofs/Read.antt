@@ -1,4 +1,5 @@
 -- What read_book sets is sound, and so a run accepts it. Assumes nothing.
+use Rattle.std.specs.Prelude.{Result, Ok, Err}
 use Prim.Native.Nat.{ℕ, zero, suc, ◌*◌, ◌/◌, ◌%◌, ◌≤◌}
 use mathlib.Core.Path.{◌≡◌, refl, sym, subst}
 use mathlib.Core.Bool.{Bool, true, false, cond, ◌&&◌}
@@ -12,7 +13,6 @@ use Rattle.manual.specs.Store.{tag_of}
 use Rattle.manual.specs.Narrow.{null}
 use Rattle.manual.specs.Accept.{sizes_fit}
 use Rattle.manual.specs.declared.Refusal.{Refusal}
-use Rattle.manual.specs.declared.Verdict.{Verdict}
 use Rattle.pages.specs.Book.{check_book, step_at}
 use Rattle.pages.specs.Entering.{bare}
 use Rattle.pages.specs.Enter.{judged}
@@ -57,7 +57,7 @@ bare_sound lines few =
       };
     }
 
-fitting : (t : Bool) (v : Verdict) → cond t v (Verdict.Refused Refusal.Sizes) ≡ Verdict.Accepted → t ≡ true
+fitting : (t : Bool) (v : Result (Unit {0}) Refusal) → cond t v (Err Refusal.Sizes) ≡ (Ok tt) → t ≡ true
 fitting true v e = refl
 fitting false v e = let z : ◌≡◌ {A = ℕ} 0 1 = cc in absurd (omega arith)
 

@@ -15,10 +15,9 @@ use Rattle.manual.specs.Accept.{top_fits, loaded_fits, width_fits}
 use Rattle.pages.specs.declared.Entry.{Entry}
 use Rattle.pages.specs.Record.{byte, number}
 use Rattle.pages.specs.Entry.{entry_of}
-use Rattle.pages.proofs.Entries.{by_kind}
+use Rattle.pages.proofs.Entries.{Said, by_kind}
 use Rattle.pages.specs.Fields.{cap_of}
-use Rattle.pages.specs.declared.Step.{Step}
-use Rattle.pages.specs.Book.{step_at}
+use Rattle.pages.specs.Book.{more, step_at}
 use Rattle.pages.proofs.Walks.{more_goes_on, more_fits}
 
 -- neither 22 nor 24
@@ -35,7 +34,6 @@ abbrev pub Says : List ℕ → Entry → Type 0
 Says bytes (Entry.Capability i c) = Fit c
 Says bytes (Entry.General i v) = 1 ≤ i
 Says bytes (Entry.Line address tag) = LineSays bytes address tag
-Says bytes (Entry.Refused refusal) = Unit {0}
 
 width : (p o : ℕ) → (ltb (p % 2 ^ 31) (2 ^ 31) && ltb (o % 2 ^ 24) (2 ^ 24)) ≡ true
 width p o = rw (lt-ltb (p % 2 ^ 31) (2 ^ 31) (omega arith), lt-ltb (o % 2 ^ 24) (2 ^ 24) (omega arith))
@@ -50,18 +48,18 @@ tail book start bytes x z h e =
     let s : take 42 l ≡ take 10 l ++ take 32 (drop 10 l) = take-add 10 32 l in
     rw (n, s, k, drop_at (take 10 l) (take 32 (drop 10 l)) 10 (length-take-le 10 l (rw (length-drop start book) (omega arith))), take-take 32 32 (drop 10 l) (omega arith), drop-drop 10 start book)
 
-entry_says : (body bytes : List ℕ) (ram : ℕ) → (length body ≡ 42 → take 32 (drop 10 body) ≡ bytes) → Says bytes (entry_of body ram)
+entry_says : (body bytes : List ℕ) (ram : ℕ) → (length body ≡ 42 → take 32 (drop 10 body) ≡ bytes) → Said (Says bytes) (entry_of body ram)
 unfolding cap_of
 entry_says body bytes ram last =
-    by_kind (Says bytes) body ram tt tt tt tt
+    by_kind (Said (Says bytes)) body ram tt tt tt tt
     (λ _ t. record { top = t; width = width (number body 8 4) (number body 5 3) })
     (λ h _. h)
     (λ l g. record { aligned = l.aligned; fits = subst (λ (x : List ℕ). loaded_fits (cap_in (eqb (byte body 9) 1) x) ≡ true) (last l.bytes) g })
 
 -- a record of the walk, with the bytes that are put if it is a line's
-pub more_says : (book : List ℕ) (ram at kind key x : ℕ) (e : Entry) → Step.More x e ≡ step_at book ram at kind key → Says (take 32 (drop (x - 32) book)) e
+pub more_says : (book : List ℕ) (ram at kind key x : ℕ) (e : Entry) → more x e ≡ step_at book ram at kind key → Says (take 32 (drop (x - 32) book)) e
 more_says book ram at kind key x e q =
     let g = more_goes_on book ram at kind key x e q in
     let bytes = take 32 (drop (x - 32) book) in
-    subst (λ (y : Entry). Says bytes y) g.says
+    subst (Said (Says bytes)) g.says
     (entry_says (take g.bytes (drop g.start book)) bytes ram (tail book g.start g.bytes x g.ends (more_fits book ram at kind key x e q).1))

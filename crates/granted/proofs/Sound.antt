@@ -1,4 +1,5 @@
 -- What every start is that a book sets: nothing in it is refused. Assumes nothing.
+use Rattle.std.specs.Prelude.{None, Ok, Err, Some}
 use Prim.Native.Nat.{ℕ, zero, suc, ◌+◌, ◌-◌, ◌*◌, ◌/◌, ◌≤◌, ◌<◌}
 use mathlib.Core.Path.{◌≡◌, refl, sym, ◌∙◌, subst}
 use mathlib.Core.Logic.{◌⊎◌, inl, inr, ⊎_elim}
@@ -15,12 +16,10 @@ use Rattle.manual.proofs.Stores.{length-put, put-read, others_stay, length_with_
 use Rattle.manual.specs.declared.Cap.{Cap}
 use Rattle.manual.specs.Narrow.{null}
 use Rattle.manual.specs.Line.{cap_in}
-use Rattle.manual.specs.declared.Pending.{Pending}
 use Rattle.manual.specs.Accept.{loaded_fits}
 use Rattle.manual.specs.declared.Machine.{Machine}
 use Rattle.pages.specs.declared.Entry.{Entry}
-use Rattle.pages.specs.declared.Step.{Step}
-use Rattle.pages.specs.Book.{kind_of, key_of, step_at}
+use Rattle.pages.specs.Book.{Step, more, kind_of, key_of, step_at}
 use Rattle.pages.specs.Entering.{Start, machine_with, ram_with, tags_with, entered, enter_all, LineIsThere}
 use Rattle.pages.proofs.Enters.{there}
 use Rattle.granted.proofs.Says.{Fit, Says, more_says}
@@ -29,7 +28,7 @@ use Rattle.granted.proofs.Says.{Fit, Says, more_says}
 pub record Registers (m : Machine) : Type 0 where
   pub caps : (i : ℕ) → Fit (get_or m.caps i null)
   pub pcc : Fit m.pcc
-  pub quiet : m.pending ≡ Pending.Quiet
+  pub quiet : m.pending ≡ None
   pub first_zero : get_or m.general 0 0 ≡ 0
 
 -- the capability in a line, with the line's tag, fits
@@ -63,7 +62,6 @@ registers_with (Entry.Capability number c) bytes m f r = capability_set (eqb num
 registers_with (Entry.General number value) bytes m f r =
     record { caps = r.caps; pcc = r.pcc; quiet = r.quiet; first_zero = get_or-set_other m.general number 0 value 0 (λ e. omega arith) ∙ r.first_zero }
 registers_with (Entry.Line address tag) bytes m f r = r
-registers_with (Entry.Refused refusal) bytes m f r = r
 
 -- a part that is not written is as it was
 part_kept : (l vs : List ℕ) (at j n : ℕ) → (j + n ≤ at) ⊎ (at + length vs ≤ j) → take n (drop j (put l at vs)) ≡ take n (drop j l)
@@ -117,7 +115,6 @@ lines_with book x (Entry.Line address tag) lines ram tags f t s =
     let long : length vs ≡ 32 = length-take-le 32 (drop (x - 32) book) (rw (length-drop (x - 32) book) (omega (arith, t.0, t.1))) in
     subst (λ (at : ℕ). Lines lines (put ram at vs) (with_tag tags k tag)) (sym z)
     (line_put lines ram tags vs k tag long (omega (arith, t.3)) f.fits s)
-lines_with book x (Entry.Refused refusal) lines ram tags f t s = s
 
 -- a whole start
 pub record Sound (lines : ℕ) (s : Start) : Type 0 where
@@ -126,7 +123,7 @@ pub record Sound (lines : ℕ) (s : Start) : Type 0 where
 
 -- one record after the other
 module _ (book : List ℕ) (lines : ℕ) where
-  one : (at kind key x : ℕ) (e : Entry) (s : Start) → Step.More x e ≡ step_at book (lines * 32) at kind key → Sound lines s → Sound lines (entered book x e s)
+  one : (at kind key x : ℕ) (e : Entry) (s : Start) → more x e ≡ step_at book (lines * 32) at kind key → Sound lines s → Sound lines (entered book x e s)
   one at kind key x e s q g =
       let f = more_says book (lines * 32) at kind key x e q in
       record {
@@ -137,7 +134,9 @@ module _ (book : List ℕ) (lines : ℕ) where
   pub all : (n at kind key : ℕ) (step : Step) (s : Start) → step ≡ step_at book (lines * 32) at kind key → Sound lines s → Sound lines (enter_all n book (lines * 32) step s)
   unfolding enter_all
   all zero at kind key step s q g = g
-  all (suc n) at kind key Step.Done s q g = g
-  all (suc n) at kind key (Step.Refused refusal) s q g = g
-  all (suc n) at kind key (Step.More x e) s q g =
+  all (suc n) at kind key (Ok None) s q g = g
+  all (suc n) at kind key (Err refusal) s q g = g
+  all (suc n) at kind key (Ok (Some r)) s q g =
+      let x = r.end in
+      let e = r.entry in
       all n x (kind_of e) (key_of e) (step_at book (lines * 32) x (kind_of e) (key_of e)) (entered book x e s) refl (one at kind key x e s q g)

@@ -1,7 +1,6 @@
 -- What a start book grants: a start that read_book accepts is one that run accepts, and a book that gives no tagged capability gives nothing.
-use Rattle.std.specs.Prelude.{ℕ, ◌+◌, ◌*◌, ◌≤◌, ◌<◌, ◌≡◌, true, false, List, [], ◌∷◌, length, get_or, replicate}
+use Rattle.std.specs.Prelude.{ℕ, ◌+◌, ◌*◌, ◌≤◌, ◌<◌, ◌≡◌, true, false, List, [], ◌∷◌, length, get_or, replicate, Ok}
 use Rattle.manual.specs.declared.Cap.{Cap}
-use Rattle.manual.specs.declared.Verdict.{Verdict}
 use Rattle.manual.specs.Accept.{sizes_fit, verdict_of}
 use Rattle.manual.specs.declared.Machine.{Machine}
 use Rattle.manual.specs.State.{capability}
@@ -12,7 +11,7 @@ use Rattle.isolation.specs.Reach.{Memories, Reach, CanRead, CanLoad}
 
 -- read_book accepts this book beside these memories, and what it then sets
 abbrev pub BookAccepted : List ℕ → List ℕ → List ℕ → List ℕ → Type 0
-BookAccepted book flash ram tags = judged book (length flash) (length ram) (length tags) ≡ Verdict.Accepted
+BookAccepted book flash ram tags = judged book (length flash) (length ram) (length tags) ≡ Ok tt
 
 abbrev pub read : List ℕ → List ℕ → List ℕ → List ℕ → Start
 read book flash ram tags = read_book book (length flash) ram tags
@@ -20,7 +19,7 @@ read book flash ram tags = read_book book (length flash) ram tags
 -- run accepts this start: not 20, 21, 22 or 24
 abbrev pub StartAccepted : List ℕ → Start → Type 0
 StartAccepted flash s =
-    verdict_of s.machine.caps s.machine.pcc s.machine.pending (get_or s.machine.general 0 0) (length flash) s.ram s.tags ≡ Verdict.Accepted
+    verdict_of s.machine.caps s.machine.pcc s.machine.pending (get_or s.machine.general 0 0) (length flash) s.ram s.tags ≡ Ok tt
 
 -- Whatever the book, the flash and what the RAM and the tags held: a start that read_book accepts is a start that run accepts.
 abbrev pub ReadIsAccepted : Type 0

@@ -1,4 +1,5 @@
 -- What a book that was read leaves in the buffers. Assumes nothing.
+use Rattle.std.specs.Prelude.{Result}
 use Prim.Native.Nat.{ℕ, ◌≤◌}
 use mathlib.Core.Path.{◌≡◌, ◌∙◌, ap}
 use mathlib.Core.List.{List}
@@ -6,15 +7,15 @@ use borrow.Author.Tests.{le-leb}
 use lib.ListN.{length}
 use Rattle.manual.specs.Store.{put}
 use Rattle.manual.specs.declared.Machine.{Machine}
-use Rattle.manual.specs.declared.Verdict.{Verdict}
 use Rattle.manual.specs.Told.{verdict_number, over}
 use Rattle.pages.specs.Enter.{judged, read_book}
 use Rattle.pages.specs.Registers.{REGISTERS, registers_of}
 use Rattle.pages.proofs.Registers.{registers_front}
 use Rattle.pages.specs.Handing.{read_into}
+use Rattle.manual.specs.declared.Refusal.{Refusal}
 
 -- a book that was read, and its registers put
-module _ (book : List ℕ) (flash : ℕ) (ram tags registers : List ℕ) (room : REGISTERS ≤ length registers) (v : Verdict) (m : Machine) (ram' tags' registers' : List ℕ) (code : ℕ)
+module _ (book : List ℕ) (flash : ℕ) (ram tags registers : List ℕ) (room : REGISTERS ≤ length registers) (v : Result (Unit {0}) Refusal) (m : Machine) (ram' tags' registers' : List ℕ) (code : ℕ)
     (ev : v ≡ judged book flash (length ram) (length tags))
     (em : m ≡ (read_book book flash ram tags).machine)
     (er : ram' ≡ (read_book book flash ram tags).ram)

@@ -7,7 +7,7 @@ ghost use Rattle.pages.specs.Handing.{read_into};
 use giving::REGISTERS;
 use manual::Refusal;
 
-// Reads a book: 0 or the refusal, the registers that it gives in `registers`, and its RAM and its tags.
+// Reads a book: 0 or the refusal, the registers that it gives in `registers`, and its RAM and its tags. The answer is C's number.
 pub fn read_into(
     book: &[u8],
     flash: usize,
@@ -23,9 +23,14 @@ pub fn read_into(
     if registers.len() < REGISTERS {
         return told::refusal_number(Refusal::Room);
     }
-    let started = enter::read_book(book, flash, ram, tags);
-    let verdict = started.verdict;
-    let m = started.machine;
-    giving::put_registers(m, registers);
-    told::verdict_number(verdict)
+    match enter::read_book(book, flash, ram, tags) {
+        Ok(m) => {
+            giving::put_registers(m, registers);
+            0
+        }
+        Err(refusal) => {
+            giving::put_registers(entering::zero_machine(), registers);
+            told::refusal_number(refusal)
+        }
+    }
 }

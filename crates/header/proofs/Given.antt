@@ -1,4 +1,5 @@
 -- What a machine is that a book gives: every field of its integer type, 32 registers of each sort, no cause. Assumes nothing.
+use Rattle.std.specs.Prelude.{Ok, Err, Some, None}
 use Prim.Native.Nat.{ℕ, zero, suc, ◌+◌, ◌^◌, ◌<◌}
 use mathlib.Core.Path.{◌≡◌, refl, sym, ◌∙◌, subst}
 use mathlib.Core.Bool.{Bool, true, false, cond}
@@ -13,10 +14,9 @@ use Rattle.manual.specs.Narrow.{null}
 use Rattle.manual.specs.declared.Machine.{Machine}
 use Rattle.pages.specs.declared.Entry.{Entry}
 use Rattle.pages.specs.Entry.{entry_of}
-use Rattle.pages.proofs.Entries.{by_kind}
+use Rattle.pages.proofs.Entries.{Said, by_kind}
 use Rattle.pages.specs.Fields.{cap_of}
-use Rattle.pages.specs.declared.Step.{Step}
-use Rattle.pages.specs.Book.{kind_of, key_of, step_at}
+use Rattle.pages.specs.Book.{Step, kind_of, key_of, step_at}
 use Rattle.pages.proofs.Walks.{more_goes_on}
 use Rattle.pages.specs.Entering.{Start, machine_with, entered, enter_all, zero_machine}
 use Rattle.reread.specs.Claims.{Sized, Typed}
@@ -34,7 +34,6 @@ abbrev Held : Entry → Type 0
 Held (Entry.Capability number c) = Sized c
 Held (Entry.General number value) = value < 2 ^ 64
 Held (Entry.Line address tag) = Unit {0}
-Held (Entry.Refused refusal) = Unit {0}
 
 taken : (n : ℕ) (l : List ℕ) → Bytes l → Bytes (take n l)
 taken zero l h i = omega arith
@@ -45,10 +44,10 @@ taken (suc n) (x ∷ l) h (suc i) = taken n l (λ j. h (suc j)) i
 part : (l : List ℕ) (n i : ℕ) → Bytes l → Bytes (take n (drop i l))
 part l n i h = taken n (drop i l) (λ j. rw (get_or-drop i l j 0) (h (i + j)))
 
-entry_held : (body : List ℕ) (ram : ℕ) → Bytes body → Held (entry_of body ram)
+entry_held : (body : List ℕ) (ram : ℕ) → Bytes body → Said Held (entry_of body ram)
 unfolding cap_of
 entry_held body ram h =
-    by_kind Held body ram tt tt tt tt
+    by_kind (Said Held) body ram tt tt tt tt
     (λ _ _. record { spare = h 4; base = omega arith; length = omega arith; offset = omega arith })
     (λ _ _. omega arith)
     (λ _ _. tt)
@@ -77,7 +76,6 @@ with_entry (Entry.General number value) m s g =
       cause = g.cause;
     }
 with_entry (Entry.Line address tag) m s g = g
-with_entry (Entry.Refused refusal) m s g = g
 
 -- one record after the other, over the all-zero machine
 pub zero_given : Given zero_machine
@@ -94,9 +92,11 @@ module _ (book : List ℕ) (ram : ℕ) (h : Bytes book) where
   pub all_given : (n at kind key : ℕ) (step : Step) (s : Start) → step ≡ step_at book ram at kind key → Given s.machine → Given (enter_all n book ram step s).machine
   unfolding enter_all
   all_given zero at kind key step s q g = g
-  all_given (suc n) at kind key Step.Done s q g = g
-  all_given (suc n) at kind key (Step.Refused refusal) s q g = g
-  all_given (suc n) at kind key (Step.More x e) s q g =
+  all_given (suc n) at kind key (Ok None) s q g = g
+  all_given (suc n) at kind key (Err refusal) s q g = g
+  all_given (suc n) at kind key (Ok (Some r)) s q g =
+      let x = r.end in
+      let e = r.entry in
       let o = more_goes_on book ram at kind key x e q in
-      let held : Held e = subst Held o.says (entry_held (take o.bytes (drop o.start book)) ram (part book o.bytes o.start h)) in
+      let held : Held e = subst (Said Held) o.says (entry_held (take o.bytes (drop o.start book)) ram (part book o.bytes o.start h)) in
       all_given n x (kind_of e) (key_of e) (step_at book ram x (kind_of e) (key_of e)) (entered book x e s) refl (with_entry e s.machine held g)

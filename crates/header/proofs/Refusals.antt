@@ -1,18 +1,16 @@
 -- The refusals that a book can have, whatever its bytes. Assumes nothing.
-use Prim.Native.Nat.{ℕ, zero, suc, ◌+◌}
+use Rattle.std.specs.Prelude.{Result, Ok, Err, Some, None}
+use Prim.Native.Nat.{ℕ, zero, suc, ◌+◌, ◌-◌}
 use mathlib.Core.List.{List}
-use lib.Dec.{eqb}
+use lib.Dec.{eqb, leb, ltb}
 use lib.ListN.{length, take, drop}
 use Rattle.manual.specs.Accept.{sizes_fit}
 use Rattle.manual.specs.declared.Refusal.{Refusal}
 use Rattle.pages.specs.declared.Entry.{Entry}
-use Rattle.pages.specs.declared.Head.{Head}
-use Rattle.pages.specs.Record.{byte, head_at}
+use Rattle.pages.specs.Record.{Head, byte, number, body_at, head_at}
 use Rattle.pages.specs.Entry.{entry_of}
 use Rattle.pages.proofs.Entries.{when, by_kind}
-use Rattle.pages.specs.declared.Step.{Step}
-use Rattle.manual.specs.declared.Verdict.{Verdict}
-use Rattle.pages.specs.Book.{kind_of, key_of, in_order, after_entry, after_head, step_at, walk, check_book}
+use Rattle.pages.specs.Book.{Step, kind_of, key_of, in_order, after_entry, after_head, step_at, walk, check_book}
 use Rattle.pages.specs.Enter.{judged}
 
 -- a book is refused with 20, 22 and 30 to 34 alone
@@ -29,58 +27,56 @@ OfBook Refusal.Field = Unit {0}
 OfBook Refusal.Waiting = ⊥
 OfBook Refusal.Room = ⊥
 
-abbrev EntryFair : Entry → Type 0
-EntryFair (Entry.Capability number c) = Unit {0}
-EntryFair (Entry.General number value) = Unit {0}
-EntryFair (Entry.Line address tag) = Unit {0}
-EntryFair (Entry.Refused refusal) = OfBook refusal
+-- of whatever is read: where it is refused, then with one of these
+abbrev pub Fair : {A : Type 0} → Result A Refusal → Type 0
+Fair (Ok _) = Unit {0}
+Fair (Err refusal) = OfBook refusal
 
-abbrev StepFair : Step → Type 0
-StepFair Step.Done = Unit {0}
-StepFair (Step.Refused refusal) = OfBook refusal
-StepFair (Step.More end entry) = Unit {0}
+entry_fair : (body : List ℕ) (ram : ℕ) → Fair (entry_of body ram)
+entry_fair body ram = by_kind Fair body ram tt tt tt tt (λ _ _. tt) (λ _ _. tt) (λ _ _. tt)
 
-abbrev pub VerdictFair : Verdict → Type 0
-VerdictFair Verdict.Accepted = Unit {0}
-VerdictFair (Verdict.Refused refusal) = OfBook refusal
-
-entry_fair : (body : List ℕ) (ram : ℕ) → EntryFair (entry_of body ram)
-entry_fair body ram = by_kind EntryFair body ram tt tt tt tt (λ _ _. tt) (λ _ _. tt) (λ _ _. tt)
-
-after_entry_lem : (end : ℕ) (entry : Entry) (kind key : ℕ) → EntryFair entry → StepFair (after_entry end entry kind key)
+after_entry_lem : (end : ℕ) (entry : Result Entry Refusal) (kind key : ℕ) → Fair entry → Fair (after_entry end entry kind key)
 unfolding after_entry
-after_entry_lem end (Entry.Capability number c) kind key f = when StepFair (in_order kind key 1 number) _ _ (λ _. tt) tt
-after_entry_lem end (Entry.General number value) kind key f = when StepFair (in_order kind key 2 number) _ _ (λ _. tt) tt
-after_entry_lem end (Entry.Line address tag) kind key f = when StepFair (in_order kind key 3 address) _ _ (λ _. tt) tt
-after_entry_lem end (Entry.Refused refusal) kind key f = f
+after_entry_lem end (Ok entry) kind key f = when Fair (in_order kind key (kind_of entry) (key_of entry)) _ _ (λ _. tt) tt
+after_entry_lem end (Err refusal) kind key f = f
 
 module _ (book : List ℕ) (ram : ℕ) where
-  after_head_lem : (head : Head) (kind key : ℕ) → StepFair (after_head book ram head kind key)
+  after_head_lem : (head : Head) (kind key : ℕ) → Fair head → Fair (after_head book ram head kind key)
   unfolding after_head
-  after_head_lem Head.End kind key = tt
-  after_head_lem Head.Cut kind key = tt
-  after_head_lem (Head.Body start bytes) kind key = after_entry_lem (start + bytes) (entry_of (take bytes (drop start book)) ram) kind key (entry_fair (take bytes (drop start book)) ram)
+  after_head_lem (Ok None) kind key f = tt
+  after_head_lem (Err refusal) kind key f = f
+  after_head_lem (Ok (Some b)) kind key f =
+      let body = take b.bytes (drop b.start book) in
+      after_entry_lem (b.start + b.bytes) (entry_of body ram) kind key (entry_fair body ram)
 
-  step_fair : (at kind key : ℕ) → StepFair (step_at book ram at kind key)
+  head_fair : (at : ℕ) → Fair (head_at book at)
+  unfolding head_at body_at
+  head_fair at =
+      when Fair (leb (length book) at) _ _ (λ _. tt)
+      (when Fair (ltb (length book - at) 2) _ _ (λ _. tt)
+      (when Fair (eqb (number book at 2) 0) _ _ (λ _. tt)
+      (when Fair (ltb (length book - (at + 2)) (number book at 2)) _ _ (λ _. tt) tt)))
+
+  step_fair : (at kind key : ℕ) → Fair (step_at book ram at kind key)
   unfolding step_at
-  step_fair at kind key = after_head_lem (head_at book at) kind key
+  step_fair at kind key = after_head_lem (head_at book at) kind key (head_fair at)
 
-  walk_fair : (n : ℕ) (step : Step) → StepFair step → VerdictFair (walk n book ram step)
+  walk_fair : (n : ℕ) (step : Step) → Fair step → Fair (walk n book ram step)
   unfolding walk
   walk_fair zero step f = tt
-  walk_fair (suc n) Step.Done f = tt
-  walk_fair (suc n) (Step.Refused refusal) f = f
-  walk_fair (suc n) (Step.More end entry) f = walk_fair n (step_at book ram end (kind_of entry) (key_of entry)) (step_fair end (kind_of entry) (key_of entry))
+  walk_fair (suc n) (Ok None) f = tt
+  walk_fair (suc n) (Err refusal) f = f
+  walk_fair (suc n) (Ok (Some r)) f = walk_fair n (step_at book ram r.end (kind_of r.entry) (key_of r.entry)) (step_fair r.end (kind_of r.entry) (key_of r.entry))
 
-  check_fair : VerdictFair (check_book book ram)
+  check_fair : Fair (check_book book ram)
   unfolding check_book
   check_fair =
-      when VerdictFair (eqb (length book) 0) _ _ (λ _. tt)
-      (when VerdictFair (eqb (byte book 0) 1) _ _ (λ _. walk_fair (length book) (step_at book ram 1 0 0) (step_fair 1 0 0)) tt)
+      when Fair (eqb (length book) 0) _ _ (λ _. tt)
+      (when Fair (eqb (byte book 0) 1) _ _ (λ _. walk_fair (length book) (step_at book ram 1 0 0) (step_fair 1 0 0)) tt)
 
-pub judged_fair : (book : List ℕ) (flash ram tags : ℕ) → VerdictFair (judged book flash ram tags)
+pub judged_fair : (book : List ℕ) (flash ram tags : ℕ) → Fair (judged book flash ram tags)
 unfolding judged
-judged_fair book flash ram tags = when VerdictFair (sizes_fit flash ram tags) _ _ (λ _. check_fair book ram) tt
+judged_fair book flash ram tags = when Fair (sizes_fit flash ram tags) _ _ (λ _. check_fair book ram) tt
 
 -- what holds of each of them holds of every refusal of a book
 pub each : (P : Refusal → Type 0) → P Refusal.Sizes → P Refusal.Top → P Refusal.Version → P Refusal.Cut → P Refusal.Kind → P Refusal.Order → P Refusal.Field

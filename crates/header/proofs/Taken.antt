@@ -1,4 +1,5 @@
 -- The registers that are handed out are taken as the machine that they are of. Assumes nothing.
+use Rattle.std.specs.Prelude.{Result, Ok}
 use Prim.Native.Nat.{ℕ}
 use mathlib.Core.Path.{◌≡◌, refl, sym, ◌∙◌, ap, subst}
 use mathlib.Core.Bool.{true, false}
@@ -6,7 +7,6 @@ use mathlib.Core.List.{List, [], ◌∷◌, ◌++◌, append-nil}
 use native.Mathlib.Omega.{arith}
 use lib.ListN.{length, get_or, replicate, length-replicate}
 use Rattle.manual.specs.Number.{Bytes}
-use Rattle.manual.specs.declared.Verdict.{Verdict}
 use Rattle.manual.specs.Accept.{verdict_of}
 use Rattle.manual.specs.declared.Machine.{Machine}
 use Rattle.pages.specs.Book.{step_at}
@@ -24,6 +24,7 @@ use Rattle.pages.specs.Registers.{cap_records, general_records, registers_of}
 use Rattle.pages.specs.Taking.{written_by, write_from}
 use Rattle.header.specs.Claims.{HandedOutIsTaken}
 use Rattle.header.proofs.Given.{Given, zero_given, all_given}
+use Rattle.manual.specs.declared.Refusal.{Refusal}
 
 -- no register is left out
 none : (m : Machine) → Omits m
@@ -50,7 +51,7 @@ all_named m =
 
 -- registers that a book gave are accepted beside no memory
 module _ (m : Machine) (g : Given m) (r : Registers m) where
-  fits : Verdict.Accepted ≡ verdict_of m.caps m.pcc m.pending (get_or m.general 0 0) 0 [] []
+  fits : (Ok tt) ≡ verdict_of m.caps m.pcc m.pending (get_or m.general 0 0) 0 [] []
   fits =
       sym (accepted 0 0 (omega arith) refl (record { machine = m; ram = []; tags = [] })
       (record { registers = r; memories = record { ram_size = refl; tags_size = refl; tag_low = λ i. omega arith; fits = λ i h. absurd (omega arith) } }))
@@ -58,16 +59,16 @@ module _ (m : Machine) (g : Given m) (r : Registers m) where
   at_rest : rests m ≡ true
   at_rest = rw (r.quiet, g.cause)
 
-  read_again : (judged (registers_of m) 0 0 0 ≡ Verdict.Accepted) × (read_book (registers_of m) 0 [] [] ≡ record { machine = m; ram = []; tags = [] })
+  read_again : (judged (registers_of m) 0 0 0 ≡ (Ok tt)) × (read_book (registers_of m) 0 [] [] ≡ record { machine = m; ram = []; tags = [] })
   read_again = rw (all_named m) (omitting_read m (none m) [] [] 0 [] [] g.typed g.caps g.general fits at_rest refl refl refl)
 
   taken : (ram tags out : List ℕ) → write_from (registers_of m) ram tags out ≡ write_book m ram tags out
   unfolding write_from
   taken ram tags out =
-      ap (λ (v : Verdict). written_by v (read_book (registers_of m) 0 [] []).machine ram tags out) read_again.0
+      ap (λ (v : Result (Unit {0}) Refusal). written_by v (read_book (registers_of m) 0 [] []).machine ram tags out) read_again.0
       ∙ ap (λ (s : Start). write_book s.machine ram tags out) read_again.1
 
-module _ (book : List ℕ) (flash : ℕ) (ram tags : List ℕ) (h : Bytes book) (e : judged book flash (length ram) (length tags) ≡ Verdict.Accepted) where
+module _ (book : List ℕ) (flash : ℕ) (ram tags : List ℕ) (h : Bytes book) (e : judged book flash (length ram) (length tags) ≡ (Ok tt)) where
   pub given : Given (read_book book flash ram tags).machine
   given =
       rw (read_accepted book flash ram tags e)

@@ -16,29 +16,25 @@ pub const GENERAL_RECORD: usize = 12;
 pub fn put_cap(out: &mut [u8], at: usize, number: u8, c: Cap)
     ensures { out.new ≡ put out.old at (record_of (cap_body number c)) }
 {
-    if compose::has_room(at, CAP_RECORD, out.len()) {
-        store::put_be(out, at, 2, 36);
-        store::put_be(out, at + 2, 1, 1);
-        store::put_be(out, at + 3, 1, number as u64);
-        store::put_be(out, at + 4, 1, tags::tag_byte(c.tag) as u64);
-        store::put_be(out, at + 5, 1, tags::tag_byte(c.sealed) as u64);
-        store::put_be(out, at + 6, 1, c.spare as u64);
-        store::put_be(out, at + 7, 3, c.otype as u64);
-        store::put_be(out, at + 10, 4, c.perms as u64);
-        store::put_be(out, at + 14, 8, c.base.0);
-        store::put_be(out, at + 22, 8, c.length);
-        store::put_be(out, at + 30, 8, c.offset.0);
-    }
+    let values = [
+        (1, 1),
+        (1, u64::from(number)),
+        (1, u64::from(c.tag)),
+        (1, u64::from(c.sealed)),
+        (1, u64::from(c.spare)),
+        (3, u64::from(c.otype)),
+        (4, u64::from(c.perms)),
+        (8, c.base.0),
+        (8, c.length),
+        (8, c.offset.0),
+    ];
+    compose::put_record(out, at, CAP_RECORD, &values, &[]);
 }
 
 // Kind 2: a general register; nothing where the record does not fit.
 pub fn put_general(out: &mut [u8], at: usize, number: u8, value: u64)
     ensures { out.new ≡ put out.old at (record_of (general_body number value)) }
 {
-    if compose::has_room(at, GENERAL_RECORD, out.len()) {
-        store::put_be(out, at, 2, 10);
-        store::put_be(out, at + 2, 1, 2);
-        store::put_be(out, at + 3, 1, number as u64);
-        store::put_be(out, at + 4, 8, value);
-    }
+    let values = [(1, 2), (1, u64::from(number)), (8, value)];
+    compose::put_record(out, at, GENERAL_RECORD, &values, &[]);
 }

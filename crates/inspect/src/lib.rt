@@ -5,7 +5,7 @@ ghost use Rattle.std.specs.Prelude.{◌≡◌};
 ghost use Rattle.manual.specs.Checks.{settle};
 ghost use Rattle.manual.specs.Inspect.{CauseOpen, field_of, pointer_of, get, c_get_cause, c_set_cause, c_to_ptr, c_check_perm, c_check_type};
 
-use manual::{Cap, Check, Effect, Field, NO_REGISTER, Named, Planned, SEAL, TYPE, USER};
+use manual::{Cap, Effect, Fault, Field, NO_REGISTER, Named, SEAL, TYPE, USER};
 
 pub fn field_of(field: Field, c: Cap) -> u64
     ensures { result ≡ field_of field c }
@@ -14,44 +14,47 @@ pub fn field_of(field: Field, c: Cap) -> u64
         Field::Base => c.base.0,
         Field::Length => c.length,
         Field::Offset => c.offset.0,
-        Field::Perms => c.perms as u64,
-        Field::Tag => compute::number(c.tag),
-        Field::Sealed => compute::number(c.sealed),
-        Field::Otype => c.otype as u64,
+        Field::Perms => u64::from(c.perms),
+        Field::Tag => u64::from(c.tag),
+        Field::Sealed => u64::from(c.sealed),
+        Field::Otype => u64::from(c.otype),
     }
 }
 
 // CGetBase, CGetLen, CGetOffset, CGetPerm, CGetTag, CGetSealed, CGetType.
-pub fn plan_get(field: Field, pcc: Cap, rd: u8, cb: Named) -> Planned
+#[tactic(auto, unfolding(manual::specs::Inspect::get, manual::specs::Checks::settle))]
+pub fn plan_get(field: Field, pcc: Cap, rd: u8, cb: Named) -> Result<Effect, Fault>
     ensures { result ≡ settle (get field pcc rd cb) }
 {
-    let k = checks::opened(Check::Passed, pcc.perms, cb.number);
-    checks::does(k, Effect::General(rd, field_of(field, cb.cap)))
+    checks::opened(pcc.perms, cb.number)?;
+    Ok(Effect::General(rd, field_of(field, cb.cap)))
 }
 
 // PCC lets the cause register be read and written.
-fn cause_open(pcc: Cap) -> Check
+fn cause_open(pcc: Cap) -> Result<(), Fault>
     ensures { CauseOpen pcc result }
 {
     let named = Named {
         number: NO_REGISTER,
         cap: pcc,
     };
-    checks::granted(Check::Passed, named, cap::ACCESS_EPCC)
+    checks::granted(named, cap::ACCESS_EPCC)
 }
 
-pub fn get_cause(pcc: Cap, cause: u16, rd: u8) -> Planned
+#[tactic(auto, unfolding(manual::specs::Inspect::c_get_cause, manual::specs::Checks::settle))]
+pub fn get_cause(pcc: Cap, cause: u16, rd: u8) -> Result<Effect, Fault>
     ensures { result ≡ settle (c_get_cause pcc cause rd) }
 {
-    let k = cause_open(pcc);
-    checks::does(k, Effect::General(rd, cause as u64))
+    cause_open(pcc)?;
+    Ok(Effect::General(rd, u64::from(cause)))
 }
 
-pub fn set_cause(pcc: Cap, rt: u64) -> Planned
+#[tactic(auto, unfolding(manual::specs::Inspect::c_set_cause, manual::specs::Checks::settle))]
+pub fn set_cause(pcc: Cap, rt: u64) -> Result<Effect, Fault>
     ensures { result ≡ settle (c_set_cause pcc rt) }
 {
-    let k = cause_open(pcc);
-    checks::does(k, Effect::Cause((rt % 0x1_0000) as u16))
+    cause_open(pcc)?;
+    Ok(Effect::Cause((rt % 0x1_0000) as u16))
 }
 
 // Where a capability points, counted from the base of another; 0 without a tag.
@@ -67,34 +70,37 @@ fn pointer_of(c: Cap, from: Cap) -> u64
     }
 }
 
-pub fn to_ptr(pcc: Cap, rd: u8, cb: Named, ct: Named) -> Planned
+#[tactic(auto, unfolding(manual::specs::Inspect::c_to_ptr, manual::specs::Checks::settle))]
+pub fn to_ptr(pcc: Cap, rd: u8, cb: Named, ct: Named) -> Result<Effect, Fault>
     ensures { result ≡ settle (c_to_ptr pcc rd cb ct) }
 {
-    let k = checks::opened(Check::Passed, pcc.perms, cb.number);
-    let k = checks::opened(k, pcc.perms, ct.number);
-    let k = checks::tagged(k, ct);
-    checks::does(k, Effect::General(rd, pointer_of(cb.cap, ct.cap)))
+    checks::opened(pcc.perms, cb.number)?;
+    checks::opened(pcc.perms, ct.number)?;
+    checks::tagged(ct)?;
+    Ok(Effect::General(rd, pointer_of(cb.cap, ct.cap)))
 }
 
-pub fn check_perm(pcc: Cap, cs: Named, rt: u64) -> Planned
+#[tactic(auto, unfolding(manual::specs::Inspect::c_check_perm, manual::specs::Checks::settle))]
+pub fn check_perm(pcc: Cap, cs: Named, rt: u64) -> Result<Effect, Fault>
     ensures { result ≡ settle (c_check_perm pcc cs rt) }
 {
-    let perms = cs.cap.perms as u64;
-    let k = checks::opened(Check::Passed, pcc.perms, cs.number);
-    let k = checks::tagged(k, cs);
-    let k = checks::that(k, perms & rt == rt, USER, cs.number);
-    checks::does(k, Effect::Nothing)
+    let perms = u64::from(cs.cap.perms);
+    checks::opened(pcc.perms, cs.number)?;
+    checks::tagged(cs)?;
+    checks::that(perms & rt == rt, USER, cs.number)?;
+    Ok(Effect::Nothing)
 }
 
-pub fn check_type(pcc: Cap, cs: Named, cb: Named) -> Planned
+#[tactic(auto, unfolding(manual::specs::Inspect::c_check_type, manual::specs::Checks::settle))]
+pub fn check_type(pcc: Cap, cs: Named, cb: Named) -> Result<Effect, Fault>
     ensures { result ≡ settle (c_check_type pcc cs cb) }
 {
-    let k = checks::opened(Check::Passed, pcc.perms, cs.number);
-    let k = checks::opened(k, pcc.perms, cb.number);
-    let k = checks::tagged(k, cs);
-    let k = checks::tagged(k, cb);
-    let k = checks::that(k, cs.cap.sealed, SEAL, cs.number);
-    let k = checks::that(k, cb.cap.sealed, SEAL, cb.number);
-    let k = checks::that(k, cs.cap.otype == cb.cap.otype, TYPE, cs.number);
-    checks::does(k, Effect::Nothing)
+    checks::opened(pcc.perms, cs.number)?;
+    checks::opened(pcc.perms, cb.number)?;
+    checks::tagged(cs)?;
+    checks::tagged(cb)?;
+    checks::that(cs.cap.sealed, SEAL, cs.number)?;
+    checks::that(cb.cap.sealed, SEAL, cb.number)?;
+    checks::that(cs.cap.otype == cb.cap.otype, TYPE, cs.number)?;
+    Ok(Effect::Nothing)
 }

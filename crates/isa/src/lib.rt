@@ -1,38 +1,17 @@
 // Instruction words: the fields of one, and which count as branches and jumps (01, "Instruction words").
 #![tactic(auto)]
 
-ghost use Rattle.std.specs.Prelude.{◌≡◌};
-ghost use Rattle.manual.specs.Word.{field25, field20, field15, field10};
+ghost use Rattle.std.specs.Prelude.{◌≡◌, ◌/◌, ◌%◌, ◌^◌, ◌<◌};
 ghost use Rattle.manual.specs.Decode.{if_zero, is_jump_word};
 
 use manual::Instr;
 
-// Bits 25..21 of a word.
-pub fn field_25(word: u32) -> u8
-    ensures { result ≡ field25 word }
+// The field of five bits of a word from bit `LOW` on.
+pub fn field<const LOW: u32>(word: u32) -> u8
+    requires { LOW < 32 }
+    ensures { result ≡ word / 2 ^ LOW % 32 }
 {
-    (word / 0x20_0000 % 32) as u8
-}
-
-// Bits 20..16.
-pub fn field_20(word: u32) -> u8
-    ensures { result ≡ field20 word }
-{
-    (word / 0x1_0000 % 32) as u8
-}
-
-// Bits 15..11.
-pub fn field_15(word: u32) -> u8
-    ensures { result ≡ field15 word }
-{
-    (word / 0x800 % 32) as u8
-}
-
-// Bits 10..6.
-pub fn field_10(word: u32) -> u8
-    ensures { result ≡ field10 word }
-{
-    (word / 0x40 % 32) as u8
+    ((word >> LOW) % 32) as u8
 }
 
 // The instruction, if a field that it does not use is zero.
@@ -48,17 +27,10 @@ pub fn if_zero(field: u32, i: Instr) -> Instr
 pub fn is_jump_word(word: u32) -> bool
     ensures { result ≡ is_jump_word word }
 {
-    let number = word / 0x20_0000 % 32;
+    let number = field::<21>(word);
     match word / 0x400_0000 {
-        0x04 => true,
-        0x05 => true,
-        18 => {
-            if 22 <= number {
-                if number <= 25 { true } else { false }
-            } else {
-                false
-            }
-        }
+        0x04 | 0x05 => true,
+        18 => matches!(number, 22..=25),
         _ => false,
     }
 }

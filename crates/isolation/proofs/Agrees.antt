@@ -1,4 +1,5 @@
 -- Two memories that agree wherever a member can read or load: the same step of both, after which they agree again. Assumes nothing.
+use Rattle.std.specs.Prelude.{Result, Ok, Err}
 use Prim.Native.Nat.{ℕ, ◌+◌, ◌*◌, ◌/◌, ◌%◌, ◌<◌}
 use mathlib.Core.Path.{◌≡◌, refl, sym, ap, ap₂, subst, ◌∙◌}
 use mathlib.Core.Bool.{Bool, true, false, not}
@@ -15,14 +16,12 @@ use Rattle.manual.proofs.Stores.{length-put, length_with_tag}
 use Rattle.manual.specs.declared.Cap.{Cap}
 use Rattle.manual.specs.Cap.{permits, EXECUTE, LOAD_CAPABILITY}
 use Rattle.manual.specs.Line.{encode, decode, cap_in, load_cap}
-use Rattle.manual.specs.declared.Access.{Access}
-use Rattle.manual.specs.Access.{access_of}
+use Rattle.manual.specs.Access.{access_of, placed}
 use Rattle.manual.specs.declared.Effect.{Effect}
-use Rattle.manual.specs.declared.Planned.{Planned}
 use Rattle.manual.specs.declared.Operands.{Operands}
-use Rattle.manual.specs.declared.Fetched.{Fetched}
 use Rattle.manual.specs.Perform.{loaded_turn, stored_turn, cap_turn, turn_of, ram_of, tags_of}
 use Rattle.manual.specs.Act.{planned_of, done_turn, done_ram, done_tags}
+use Rattle.manual.specs.Checks.{NO_REGISTER}
 use Rattle.manual.specs.Fetch.{word_in, fetch_at, must, fetch_of, word_of}
 use Rattle.manual.specs.Registers.{is_pending}
 use Rattle.manual.specs.declared.Machine.{Machine}
@@ -34,6 +33,8 @@ use Rattle.isolation.proofs.Ranges.{covers_span}
 use Rattle.isolation.proofs.Lists.{part_eq, put_same, tag_same}
 use Rattle.isolation.proofs.Plans.{Allowed, Passes, planned_good, access_spans}
 use Rattle.isolation.proofs.Keeps.{At, at_flash, at_ram, at_none, where_is, size_pos, Inv, Via, via, via_line, given, stepped}
+use Rattle.manual.specs.declared.Fault.{Fault}
+use Rattle.manual.specs.declared.Unfit.{Unfit}
 
 module _ (Member : Cap → Type 0) where
   via_read : {p a n : ℕ} → ((c : Cap) → permits c p ≡ true → Reads c) → Via Member p a n → (i : ℕ) → i < n → CanRead Member (a + i)
@@ -80,12 +81,12 @@ module _ (Member : Cap → Type 0) where
 
     -- ---- the word fetched
 
-    fetch_at_lem : (z : Access) → ((a : Address) → z ≡ Access.At a → (j : ℕ) → j < 4 → CanRead Member (a.0 + j)) → fetch_at x.flash x.ram z ≡ fetch_at y.flash y.ram z
-    fetch_at_lem (Access.At a) c = ap (λ b. word_in (number_of 4 b)) (bytes_same a 4 (c a refl))
-    fetch_at_lem Access.Length c = refl
-    fetch_at_lem Access.Misaligned c = refl
+    fetch_at_lem : (z : Result Address Unfit) → ((a : Address) → z ≡ Ok a → (j : ℕ) → j < 4 → CanRead Member (a.0 + j)) → fetch_at x.flash x.ram (placed z NO_REGISTER Fault.Misaligned) ≡ fetch_at y.flash y.ram (placed z NO_REGISTER Fault.Misaligned)
+    fetch_at_lem (Ok a) c = ap (λ b. word_in (number_of 4 b)) (bytes_same a 4 (c a refl))
+    fetch_at_lem (Err Unfit.Length) c = refl
+    fetch_at_lem (Err Unfit.Misaligned) c = refl
 
-    must_same : (b : Bool) (cause : ℕ) (f f' : Fetched) → (b ≡ true → f ≡ f') → must b cause f ≡ must b cause f'
+    must_same : (b : Bool) (cause : ℕ) (f f' : Result ℕ Fault) → (b ≡ true → f ≡ f') → must b cause f ≡ must b cause f'
     must_same true cause f f' h = h refl
     must_same false cause f f' h = refl
 
@@ -146,15 +147,15 @@ module _ (Member : Cap → Type 0) where
 
     -- ---- a step of both
 
-    done_same : (m : Machine) (o : Operands) (p : Planned) → Inv Member m x → Passes (Allowed (Held m)) p
+    done_same : (m : Machine) (o : Operands) (p : Result Effect Fault) → Inv Member m x → Passes (Allowed (Held m)) p
         → done_turn o x.flash x.ram x.tags p ≡ done_turn o y.flash y.ram y.tags p
-    done_same m o (Planned.Fails fault) v ok = refl
-    done_same m o (Planned.Does e) v ok = turn_same m o.c0.cap o.cause e v ok
+    done_same m o (Err fault) v ok = refl
+    done_same m o (Ok e) v ok = turn_same m o.c0.cap o.cause e v ok
 
-    done_agree : (p : Planned) → Agree Member (record { flash = x.flash; ram = done_ram x.flash x.ram p; tags = done_tags x.flash x.ram x.tags p })
+    done_agree : (p : Result Effect Fault) → Agree Member (record { flash = x.flash; ram = done_ram x.flash x.ram p; tags = done_tags x.flash x.ram x.tags p })
         (record { flash = y.flash; ram = done_ram y.flash y.ram p; tags = done_tags y.flash y.ram y.tags p })
-    done_agree (Planned.Fails fault) = g
-    done_agree (Planned.Does e) = effect_agree e
+    done_agree (Err fault) = g
+    done_agree (Ok e) = effect_agree e
 
     pub step_same : (m : Machine) → Inv Member m x → turn_at x.flash m x.ram x.tags ≡ turn_at y.flash m y.ram y.tags
     unfolding turn_at

@@ -1,4 +1,5 @@
 -- What a step keeps: whatever is held, and whatever can be loaded, stays under the reach at the start. Assumes nothing.
+use Rattle.std.specs.Prelude.{Result, Option, Ok, Err, Some, None}
 use Prim.Native.Nat.{ℕ, ◌+◌, ◌*◌, ◌-◌, ◌/◌, ◌%◌, ◌≤◌, ◌<◌}
 use mathlib.Core.Path.{◌≡◌, refl, sym, ap, ap₂, subst, ◌∙◌}
 use mathlib.Core.Bool.{Bool, true, false, cond}
@@ -14,7 +15,6 @@ use Rattle.manual.specs.declared.Size.{Size}
 use Rattle.manual.specs.declared.Size.TheVariants.{One, Two, Four, Eight, Line}
 use Rattle.manual.specs.declared.Place.{Place}
 use Rattle.manual.specs.declared.Place.TheVariants.{Flash, Ram, Nowhere}
-use Rattle.manual.specs.declared.Loaded.{Loaded}
 use Rattle.manual.specs.Number.{LINE, bytes_in, to_be}
 use Rattle.manual.specs.Place.{RAM_BASE, place_of, part_of, bytes_of, load_of}
 use Rattle.manual.specs.Store.{put, tag_of, with_tag, tag_at, answer_at, ram_after, tags_after}
@@ -23,16 +23,12 @@ use Rattle.manual.proofs.Stores.{put-read, length-put, other_tags_stay}
 use Rattle.manual.specs.declared.Cap.{Cap}
 use Rattle.manual.specs.Cap.{permits, LOAD_CAPABILITY}
 use Rattle.manual.specs.Narrow.{null, inc_offset}
-use Rattle.manual.specs.declared.LoadedCap.{LoadedCap}
 use Rattle.manual.specs.Line.{encode, decode, from_words, cap_in, load_cap}
 use Rattle.manual.proofs.Lines.{length-encode}
 use Rattle.manual.specs.Word.{field25, field20, field15, field10}
 use Rattle.manual.specs.declared.Effect.{Effect}
-use Rattle.manual.specs.declared.Planned.{Planned}
 use Rattle.manual.specs.declared.Operands.{Operands}
-use Rattle.manual.specs.declared.Pending.{Pending}
 use Rattle.manual.specs.declared.Change.{Change}
-use Rattle.manual.specs.declared.Turn.{Turn}
 use Rattle.manual.specs.Perform.{quiet, loaded_turn, stored_turn, cap_turn, turn_of, ram_of, tags_of}
 use Rattle.manual.specs.Act.{planned_of, done_turn, done_ram, done_tags}
 use Rattle.manual.specs.Fetch.{word_of}
@@ -46,6 +42,7 @@ use Rattle.isolation.proofs.Ranges.{Fits, Narrows, covers_span, inside_span, ins
 use Rattle.isolation.proofs.Lists.{never, part_eq, tag_given, put_outside, all_set}
 use Rattle.isolation.proofs.Plans.{Made, Through, Allowed, Given, Passes, planned_good}
 use Rattle.isolation.proofs.Stored.{stored_narrows}
+use Rattle.manual.specs.declared.Fault.{Fault}
 
 -- ---- where an access lies
 
@@ -83,12 +80,12 @@ one_line Four a i h e = omega arith
 one_line Eight a i h e = omega arith
 one_line Line a i h e = omega arith
 
-no_jump : (A : Type 0) (c : Cap) → Pending.Quiet ≡ Pending.Jump c → A
+no_jump : (A : Type 0) (c : Cap) → None ≡ Some c → A
 no_jump A c e = let z : ◌≡◌ {A = ℕ} 0 1 = cc in absurd (omega arith)
 
-abbrev target_of : Cap → Pending → Cap
-target_of d Pending.Quiet = d
-target_of d (Pending.Jump c) = c
+abbrev target_of : Cap → Option Cap → Cap
+target_of d None = d
+target_of d (Some c) = c
 
 decode_tag : (t : Bool) (l : List ℕ) → (decode t l).tag ≡ t
 unfolding decode from_words
@@ -98,11 +95,11 @@ untagged : (A : Type 0) (l : List ℕ) (c : Cap) → decode false l ≡ c → c.
 untagged A l c d g = never A (sym (decode_tag false l) ∙ ap (λ (k : Cap). k.tag) d ∙ g)
 
 -- the capability that a load gave is that of the bytes
-value_is : (tag : Bool) (part : List ℕ) (c : Cap) → cap_in tag part ≡ LoadedCap.Value c → decode tag part ≡ c
+value_is : (tag : Bool) (part : List ℕ) (c : Cap) → cap_in tag part ≡ Some c → decode tag part ≡ c
 unfolding cap_in
 value_is tag part c e = go (eqb (length part) 32) e
   where
-    go : (b : Bool) → cond b (LoadedCap.Value (decode tag part)) LoadedCap.Nowhere ≡ LoadedCap.Value c → decode tag part ≡ c
+    go : (b : Bool) → cond b (Some (decode tag part)) None ≡ Some c → decode tag part ≡ c
     go true e = cc
     go false e = never _ cc
 
@@ -135,7 +132,7 @@ module _ (Member : Cap → Type 0) where
   pub record Inv (m : Machine) (x : Memories) : Type 0 where
     pub registers : (i : ℕ) → i < 32 → Safe (capability m i)
     pub pcc : Safe m.pcc
-    pub pending : (c : Cap) → m.pending ≡ Pending.Jump c → Safe c
+    pub pending : (c : Cap) → m.pending ≡ Some c → Safe c
     pub lines : (i : ℕ) → CanLoad Member i → tag_of x.tags i ≡ true → Safely (line_cap x i)
 
   pub held_safe : {m : Machine} {x : Memories} {c : Cap} → Inv m x → Held m c → Safe c
@@ -173,12 +170,12 @@ module _ (Member : Cap → Type 0) where
 
   -- ---- the registers after a step
 
-  next_safe : (pcc : Cap) (p : Pending) → Safe pcc → ((t : Cap) → p ≡ Pending.Jump t → Safe t) → Safe (next_pcc pcc p)
+  next_safe : (pcc : Cap) (p : Option Cap) → Safe pcc → ((t : Cap) → p ≡ Some t → Safe t) → Safe (next_pcc pcc p)
   unfolding inc_offset
-  next_safe pcc Pending.Quiet s h = λ t. narrowed (narrows_offset pcc 4) (s t)
-  next_safe pcc (Pending.Jump t) s h = h t refl
+  next_safe pcc None s h = λ t. narrowed (narrows_offset pcc 4) (s t)
+  next_safe pcc (Some t) s h = h t refl
 
-  committed : {m : Machine} {x y : Memories} (d : Change) → Inv m x → Safe d.cap → ((t : Cap) → d.jump ≡ Pending.Jump t → Safe t)
+  committed : {m : Machine} {x y : Memories} (d : Change) → Inv m x → Safe d.cap → ((t : Cap) → d.jump ≡ Some t → Safe t)
       → ((i : ℕ) → CanLoad Member i → tag_of y.tags i ≡ true → Safely (line_cap y i)) → Inv (commit m d) y
   unfolding commit
   committed {m} d v s j l = record {
@@ -250,28 +247,28 @@ module _ (Member : Cap → Type 0) where
 
   -- a step that goes on keeps the invariant, and what no member could write; one that stops has written nothing
   module _ (m : Machine) (x : Memories) where
-    abbrev pub Fine : Turn → Memories → Type 0
-    Fine (Turn.Next d) y = Inv (commit m d) y × Kept Member x y
-    Fine (Turn.Stops fault) y = Unit {0}
+    abbrev pub Fine : Result Change Fault → Memories → Type 0
+    Fine (Ok d) y = Inv (commit m d) y × Kept Member x y
+    Fine (Err fault) y = Unit {0}
 
     module _ (v : Inv m x) where
       -- C0 as it was, or another register that is safe, and no memory written
-      plain : (d : Change) → Safe d.cap → ((t : Cap) → d.jump ≡ Pending.Jump t → Safe t) → Fine (Turn.Next d) x
+      plain : (d : Change) → Safe d.cap → ((t : Cap) → d.jump ≡ Some t → Safe t) → Fine (Ok d) x
       plain d s j = (committed d v s j v.lines, kept_refl x)
 
-      no_target : (t : Cap) → Pending.Quiet ≡ Pending.Jump t → Safe t
+      no_target : (t : Cap) → None ≡ Some t → Safe t
       no_target t e = no_jump _ t e
 
-      the_target : (c : Cap) → Safe c → (t : Cap) → Pending.Jump c ≡ Pending.Jump t → Safe t
+      the_target : (c : Cap) → Safe c → (t : Cap) → Some c ≡ Some t → Safe t
       the_target c s t e = subst Safe (ap (target_of c) e) s
 
-      loaded_fine : (c0 : Cap) (cause : ℕ) (signed : Bool) (size : Size) (rd : ℕ) (l : Loaded) → Safe c0 → Fine (loaded_turn c0 cause signed size rd l) x
-      loaded_fine c0 cause signed size rd (Loaded.Value n) s = plain _ s no_target
-      loaded_fine c0 cause signed size rd Loaded.Nowhere s = tt
+      loaded_fine : (c0 : Cap) (cause : ℕ) (signed : Bool) (size : Size) (rd : ℕ) (l : Option ℕ) → Safe c0 → Fine (loaded_turn c0 cause signed size rd l) x
+      loaded_fine c0 cause signed size rd (Some n) s = plain _ s no_target
+      loaded_fine c0 cause signed size rd None s = tt
 
-      cap_fine : (cause cd : ℕ) (l : LoadedCap) → ((c : Cap) → l ≡ LoadedCap.Value c → Safe c) → Fine (cap_turn cause cd l) x
-      cap_fine cause cd (LoadedCap.Value c) s = plain _ (s c refl) no_target
-      cap_fine cause cd LoadedCap.Nowhere s = tt
+      cap_fine : (cause cd : ℕ) (l : Option Cap) → ((c : Cap) → l ≡ Some c → Safe c) → Fine (cap_turn cause cd l) x
+      cap_fine cause cd (Some c) s = plain _ (s c refl) no_target
+      cap_fine cause cd None s = tt
 
       stored_fine : {p a n : ℕ} {q : Place} (c0 : Cap) (cause : ℕ) (bytes : List ℕ) (tag : Bool) → At (length x.flash) (length x.ram) a n q → Safe c0
           → ((c : Cap) → permits c p ≡ true → Writes c) → 0 < n → length bytes ≡ n → Via p a n → ((i : ℕ) → a ≡ RAM_BASE + i → i % LINE + n ≤ LINE)
@@ -287,7 +284,7 @@ module _ (Member : Cap → Type 0) where
 
       -- what a capability load gives is safe: a line that a member can load, or untagged data of flash
       given_safe : (a : ℕ) (c : Cap) {q : Place} → At (length x.flash) (length x.ram) a LINE q → a % LINE ≡ 0 → Via LOAD_CAPABILITY a LINE
-          → cap_in (tag_at x.tags q) (part_of x.flash x.ram q LINE) ≡ LoadedCap.Value c → Safe c
+          → cap_in (tag_at x.tags q) (part_of x.flash x.ram q LINE) ≡ Some c → Safe c
       unfolding line_cap
       given_safe a c (at_flash h) al t e g = untagged _ (take LINE (drop a x.flash)) c (value_is false (take LINE (drop a x.flash)) c e) g
       given_safe a c (at_ram i ea h) al t e g =
@@ -297,7 +294,7 @@ module _ (Member : Cap → Type 0) where
           subst Safely d (subst (λ (n : ℕ). Safely (decode (tag_of x.tags (i / LINE)) (take LINE (drop n x.ram)))) k (v.lines (i / LINE) (via_line i ea al t) b))
       given_safe a c at_none al t e g = untagged _ [] c (value_is false [] c e) g
 
-      loads_safe : (a : Address) → a.0 % LINE ≡ 0 → Via LOAD_CAPABILITY a.0 LINE → (c : Cap) → load_cap x.flash x.ram x.tags a ≡ LoadedCap.Value c → Safe c
+      loads_safe : (a : Address) → a.0 % LINE ≡ 0 → Via LOAD_CAPABILITY a.0 LINE → (c : Cap) → load_cap x.flash x.ram x.tags a ≡ Some c → Safe c
       unfolding load_cap bytes_of
       loads_safe a al t c e = given_safe a.0 c (where_is (length x.flash) (length x.ram) a LINE) al t e
 
@@ -326,10 +323,10 @@ module _ (Member : Cap → Type 0) where
           (omega arith) (length-encode c) (via (omega arith) v ok.0) (λ i e. one_line Line a.0 i ok.0.aligned e)
           (λ i e h t. stored_line x i c (omega (arith, ok.0.aligned)) h (made_safe v ok.1) t)
 
-      done_fine : (o : Operands) (p : Planned) → Safe o.c0.cap → Passes (Allowed (Held m)) p
+      done_fine : (o : Operands) (p : Result Effect Fault) → Safe o.c0.cap → Passes (Allowed (Held m)) p
           → Fine (done_turn o x.flash x.ram x.tags p) (record { flash = x.flash; ram = done_ram x.flash x.ram p; tags = done_tags x.flash x.ram x.tags p })
-      done_fine o (Planned.Fails fault) s ok = tt
-      done_fine o (Planned.Does e) s ok = effect_fine o.c0.cap o.cause e s ok
+      done_fine o (Err fault) s ok = tt
+      done_fine o (Ok e) s ok = effect_fine o.c0.cap o.cause e s ok
 
       -- the memories after the step
       pub turn_fine : Fine (turn_at x.flash m x.ram x.tags) (stepped m x)

@@ -1,5 +1,6 @@
 -- What a plan may ask for: each tagged capability that it makes is narrowed from one that is held, and each access goes through one
 -- that is held and has the permission. Assumes nothing.
+use Rattle.std.specs.Prelude.{Result, Ok, Err}
 use Prim.Native.Nat.{ℕ, ◌+◌, ◌%◌, ◌^◌, ◌≤◌}
 use mathlib.Core.Path.{◌≡◌, refl, ap}
 use mathlib.Core.Bool.{Bool, true, false, cond, ◌&&◌, ◌||◌}
@@ -14,14 +15,12 @@ use Rattle.manual.specs.Number.{LINE, bytes_in}
 use Rattle.manual.specs.declared.Cap.{Cap}
 use Rattle.manual.specs.Cap.{permits, LOAD, STORE, LOAD_CAPABILITY, STORE_CAPABILITY}
 use Rattle.manual.specs.Narrow.{null, and_perms, inc_base, inc_offset, set_offset, set_length, from_ptr, sealed_by, unsealed_by}
-use Rattle.manual.specs.declared.Access.{Access}
 use Rattle.manual.specs.Access as Test
 use Rattle.manual.specs.Access.{access_of, placed_at, placed_from, sum_of}
 use Rattle.manual.specs.declared.Instr.{Instr}
 use Rattle.manual.specs.Decode.{decode_word, is_jump_word}
 use Rattle.manual.specs.declared.Fault.{Fault}
 use Rattle.manual.specs.declared.Effect.{Effect}
-use Rattle.manual.specs.declared.Planned.{Planned}
 use Rattle.manual.specs.declared.Named.{Named}
 use Rattle.manual.specs.Checks.{Checked, ok, fail, guard, fork, settle}
 use Rattle.manual.specs.Derive.{is_zero, c_get_pcc, c_and_perm, c_clear_tag, c_inc_base, c_set_len, c_set_offset, c_inc_offset, c_from_ptr}
@@ -33,16 +32,16 @@ use Rattle.manual.specs.Branch.{branch, branch_tag, branch_to}
 use Rattle.manual.specs.Transfer.{lies, load, store, c_lc, c_sc}
 use Rattle.manual.specs.declared.Operands.{Operands}
 use Rattle.manual.specs.Plan.{plan_of}
-use Rattle.manual.specs.declared.Fetched.{Fetched}
 use Rattle.manual.specs.Act.{planned_of}
 use Rattle.isolation.specs.Reach.{Spans}
 use Rattle.isolation.proofs.Lists.{never}
 use Rattle.isolation.proofs.Ranges.{Narrows, same_range, narrows_and, narrows_unseal, narrows_seal, narrows_offset, narrows_base}
+use Rattle.manual.specs.declared.Unfit.{Unfit}
 
 -- ---- where an access lies
 
 placed : (b n o size : ℕ) (a : Address) (t u : Bool) → Test.fits b n o size ≡ t → Test.aligned (b + o) size ≡ u
-    → cond t (cond u (Access.At (record { 0 = b + o })) Access.Misaligned) Access.Length ≡ Access.At a
+    → cond t (cond u (Ok (record { 0 = b + o })) (Err Unfit.Misaligned)) (Err Unfit.Length) ≡ Ok a
     → (b ≤ a.0) × (a.0 + size ≤ b + n) × (a.0 % size ≡ 0)
 placed b n o size a true true p q e = go (leb (o + size) n) refl p
   where
@@ -55,13 +54,13 @@ placed b n o size a true true p q e = go (leb (o + size) n) refl p
 placed b n o size a true false p q e = never _ cc
 placed b n o size a false u p q e = never _ cc
 
-from_sum : (b n size : ℕ) (z : ℤ) (a : Address) → placed_from b n z size ≡ Access.At a → (b ≤ a.0) × (a.0 + size ≤ b + n) × (a.0 % size ≡ 0)
+from_sum : (b n size : ℕ) (z : ℤ) (a : Address) → placed_from b n z size ≡ Ok a → (b ≤ a.0) × (a.0 + size ≤ b + n) × (a.0 % size ≡ 0)
 unfolding placed_from placed_at
 from_sum b n size (pos o) a e = placed b n o size a (Test.fits b n o size) (Test.aligned (b + o) size) refl refl e
 from_sum b n size (negsuc k) a e = never _ cc
 
 -- the bytes of an access that passed lie in the capability's range, and are aligned
-pub access_spans : (c : Cap) (rt immediate size : ℕ) (a : Address) → access_of c rt immediate size ≡ Access.At a → Spans c a.0 size × (a.0 % size ≡ 0)
+pub access_spans : (c : Cap) (rt immediate size : ℕ) (a : Address) → access_of c rt immediate size ≡ Ok a → Spans c a.0 size × (a.0 % size ≡ 0)
 unfolding access_of
 access_spans c rt immediate size a e =
     let r = from_sum c.base.0 c.length size (sum_of c.offset.0 rt immediate) a e in
@@ -76,11 +75,11 @@ module _ (P : Effect → Type 0) where
   Good (guard holds fault rest) = holds ≡ true → Good rest
   Good (fork test one other) = (test ≡ true → Good one) × (test ≡ false → Good other)
 
-  abbrev pub Passes : Planned → Type 0
-  Passes (Planned.Does effect) = P effect
-  Passes (Planned.Fails fault) = Unit {0}
+  abbrev pub Passes : Result Effect Fault → Type 0
+  Passes (Ok effect) = P effect
+  Passes (Err fault) = Unit {0}
 
-  passes_if : (b : Bool) (x y : Planned) → (b ≡ true → Passes x) → (b ≡ false → Passes y) → Passes (cond b x y)
+  passes_if : (b : Bool) (x y : Result Effect Fault) → (b ≡ true → Passes x) → (b ≡ false → Passes y) → Passes (cond b x y)
   passes_if true x y h k = h refl
   passes_if false x y h k = k refl
 
@@ -88,14 +87,14 @@ module _ (P : Effect → Type 0) where
   unfolding settle
   settles (ok effect) g = g
   settles (fail fault) g = tt
-  settles (guard holds fault rest) g = passes_if holds (settle rest) (Planned.Fails fault) (λ e. settles rest (g e)) (λ e. tt)
+  settles (guard holds fault rest) g = passes_if holds (settle rest) (Err fault) (λ e. settles rest (g e)) (λ e. tt)
   settles (fork test one other) g = passes_if test (settle one) (settle other) (λ e. settles one (g.0 e)) (λ e. settles other (g.1 e))
 
-  lies_good : (x : Access) (register : ℕ) (fault : Fault) (effect : Address → Effect)
-      → ((a : Address) → x ≡ Access.At a → P (effect a)) → Good (lies x register fault effect)
-  lies_good (Access.At a) register fault effect h = h a refl
-  lies_good Access.Length register fault effect h = tt
-  lies_good Access.Misaligned register fault effect h = tt
+  lies_good : (x : Result Address Unfit) (register : ℕ) (fault : Fault) (effect : Address → Effect)
+      → ((a : Address) → x ≡ Ok a → P (effect a)) → Good (lies (Test.placed x register fault) effect)
+  lies_good (Ok a) register fault effect h = h a refl
+  lies_good (Err Unfit.Length) register fault effect h = tt
+  lies_good (Err Unfit.Misaligned) register fault effect h = tt
 
 module _ (Holds : Cap → Type 0) where
   -- c is narrowed from a tagged capability that is held
@@ -175,7 +174,7 @@ module _ (Holds : Cap → Type 0) where
 
   -- an access through a held capability, after the four checks that each begins with
   reached : (c : Cap) (permission rt immediate size : ℕ) (a : Address) → Holds c → c.tag ≡ true → permits c permission ≡ true
-      → access_of c rt immediate size ≡ Access.At a → Through permission a.0 size
+      → access_of c rt immediate size ≡ Ok a → Through permission a.0 size
   reached c permission rt immediate size a h t p e =
       let r = access_spans c rt immediate size a e in
       record { by = c; held = h; tagged = t; may = p; spans = r.0; aligned = r.1 }
@@ -241,9 +240,9 @@ module _ (Holds : Cap → Type 0) where
   plan_good o g (Instr.PtrCompare kind) = λ _ _. tt
 
   -- whatever was fetched
-  pub planned_good : (o : Operands) → Given o → (slot : Bool) (fetched : Fetched) → Passes Allowed (planned_of o slot fetched)
+  pub planned_good : (o : Operands) → Given o → (slot : Bool) (fetched : Result ℕ Fault) → Passes Allowed (planned_of o slot fetched)
   unfolding planned_of
-  planned_good o g slot (Fetched.Stops fault) = tt
-  planned_good o g slot (Fetched.Word w) =
-      passes_if Allowed (slot && is_jump_word w) (Planned.Fails Fault.Pending) (settle (plan_of o (decode_word w)))
+  planned_good o g slot (Err fault) = tt
+  planned_good o g slot (Ok w) =
+      passes_if Allowed (slot && is_jump_word w) (Err Fault.Pending) (settle (plan_of o (decode_word w)))
       (λ _. tt) (λ _. settles Allowed (plan_of o (decode_word w)) (plan_good o g (decode_word w)))

@@ -1,4 +1,5 @@
 -- An accepted start: each tagged capability that is held or in a line fits. Assumes nothing.
+use Rattle.std.specs.Prelude.{Option}
 use Prim.Native.Nat.{ℕ, ◌+◌, ◌*◌, ◌^◌, ◌≤◌, ◌<◌}
 use mathlib.Core.Path.{◌≡◌, sym, subst}
 use mathlib.Core.Bool.{Bool, true, false, ◌&&◌}
@@ -12,7 +13,6 @@ use Rattle.manual.specs.Number.{LINE}
 use Rattle.manual.specs.Store.{tag_of}
 use Rattle.manual.specs.declared.Cap.{Cap}
 use Rattle.manual.specs.Line.{decode, from_words, cap_in}
-use Rattle.manual.specs.declared.Pending.{Pending}
 use Rattle.manual.specs.Accept.{top_fits, jump_fits, loaded_fits, width_fits, jump_width}
 use Rattle.manual.proofs.Tests.{both_true}
 use Rattle.manual.proofs.Accepted.{whole_lines, few_lines, cap_top, pcc_top, jump_top, cap_width, pcc_width, jump_width_lem, line_top, bytes_32, loaded_top}
@@ -58,8 +58,8 @@ module _ (m : Machine) (x : Memories) (a : Accepted m x) where
       fits c (subst (λ (k : Cap). top_fits k ≡ true) e (pcc_top m.caps m.pcc m.pending _ _ x.ram x.tags (sym a)))
       (subst (λ (k : Cap). width_fits k ≡ true) e (pcc_width m.caps m.pcc m.pending _ _ x.ram x.tags (sym a))) t
   held_fits c (in_pending e) t =
-      fits c (subst (λ (p : Pending). jump_fits p ≡ true) e (jump_top m.caps m.pcc m.pending _ _ x.ram x.tags (sym a)))
-      (subst (λ (p : Pending). jump_width p ≡ true) e (jump_width_lem m.caps m.pcc m.pending _ _ x.ram x.tags (sym a))) t
+      fits c (subst (λ (p : Option Cap). jump_fits p ≡ true) e (jump_top m.caps m.pcc m.pending _ _ x.ram x.tags (sym a)))
+      (subst (λ (p : Option Cap). jump_width p ≡ true) e (jump_width_lem m.caps m.pcc m.pending _ _ x.ram x.tags (sym a))) t
 
   pub line_fits_lem : (i : ℕ) → tag_of x.tags i ≡ true → Fits (line_cap x i)
   unfolding line_cap

@@ -1,15 +1,14 @@
 -- The theorems: what is out of reach has no influence, reach does not grow, and nothing out of reach is written. Assumes nothing.
+use Rattle.std.specs.Prelude.{Result, Ok, Err}
 use Prim.Native.Nat.{ℕ, zero, suc, ◌+◌}
 use mathlib.Core.Path.{◌≡◌, refl, sym, ap, subst, ◌∙◌}
 use mathlib.Core.Bool.{true}
 use native.Mathlib.Omega.{arith}
 use Rattle.manual.specs.declared.Cap.{Cap}
 use Rattle.manual.specs.Cap.{LOAD_CAPABILITY}
-use Rattle.manual.specs.declared.Turn.{Turn}
-use Rattle.manual.specs.declared.Turn.TheVariants.{Next, Stops}
 use Rattle.manual.specs.declared.Machine.{Machine}
 use Rattle.manual.specs.State.{commit, stopped_at}
-use Rattle.manual.specs.Steps.{Result, turn_at, run_from}
+use Rattle.manual.specs.Steps.{Ran, turn_at, run_from}
 use Rattle.manual.specs.Run.{judged, run_of}
 use Rattle.isolation.specs.Reach.{Memories, Held, in_register, in_pcc, in_pending, Reach, held, line, CanLoad}
 use Rattle.isolation.specs.Agree.{Agree, Alike, Under, Kept, left}
@@ -18,6 +17,8 @@ use Rattle.isolation.proofs.Ranges.{inside_refl, inside_span}
 use Rattle.isolation.proofs.Keeps.{Safely, Inv, held_safe, Fine, stepped, turn_fine, kept_refl, kept_trans}
 use Rattle.isolation.proofs.Agrees.{line_same, step_same, step_agree}
 use Rattle.isolation.proofs.Starts.{held_fits, line_fits_lem}
+use Rattle.manual.specs.declared.Fault.{Fault}
+use Rattle.manual.specs.declared.Change.{Change}
 
 -- an accepted start goes on to its steps
 run_is : (budget : ℕ) (m : Machine) (x : Memories) → Accepted m x → ran budget m x ≡ run_from budget 0 x.flash m x.ram x.tags
@@ -28,7 +29,7 @@ module _ (Member : Cap → Type 0) where
   -- ---- one run
 
   -- after a run: the invariant, and what no member could write is as it was
-  pub record After (x : Memories) (r : Result) : Type 0 where
+  pub record After (x : Memories) (r : Ran) : Type 0 where
     pub inv : Inv Member r.outcome.machine (left x r)
     pub kept : Kept Member x (left x r)
 
@@ -36,18 +37,18 @@ module _ (Member : Cap → Type 0) where
       → Inv Member (record { general = m.general; caps = m.caps; pcc = m.pcc; pending = m.pending; cause = cause }) x
   cause_inv cause v = record { registers = v.registers; pcc = v.pcc; pending = v.pending; lines = v.lines }
 
-  turned : (k n : ℕ) (m : Machine) (x : Memories) (t : Turn)
+  turned : (k n : ℕ) (m : Machine) (x : Memories) (t : Result Change Fault)
       → ((m' : Machine) (x' : Memories) → Inv Member m' x' → After x' (run_from k (n + 1) x'.flash m' x'.ram x'.tags))
       → Inv Member m x → Fine Member m x t (stepped m x)
       → After x (elim t [
-        | Next d ↦ run_from k (n + 1) x.flash (commit m d) (stepped m x).ram (stepped m x).tags
-        | Stops fault ↦ record { outcome = stopped_at fault n m; ram = x.ram; tags = x.tags }
+        | Ok d ↦ run_from k (n + 1) x.flash (commit m d) (stepped m x).ram (stepped m x).tags
+        | Err fault ↦ record { outcome = stopped_at fault n m; ram = x.ram; tags = x.tags }
       ])
   unfolding stopped_at
-  turned k n m x (Turn.Next d) on v f =
+  turned k n m x (Ok d) on v f =
       let a = on (commit m d) (stepped m x) f.0 in
       record { inv = a.inv; kept = kept_trans Member f.1 a.kept }
-  turned k n m x (Turn.Stops fault) on v f = record { inv = cause_inv _ v; kept = kept_refl Member x }
+  turned k n m x (Err fault) on v f = record { inv = cause_inv _ v; kept = kept_refl Member x }
 
   run_fine : (k n : ℕ) (m : Machine) (x : Memories) → Inv Member m x → After x (run_from k n x.flash m x.ram x.tags)
   unfolding run_from
@@ -56,22 +57,22 @@ module _ (Member : Cap → Type 0) where
 
   -- ---- two runs
 
-  both : (k n : ℕ) (m : Machine) (x y : Memories) (t : Turn)
+  both : (k n : ℕ) (m : Machine) (x y : Memories) (t : Result Change Fault)
       → ((m' : Machine) (x' y' : Memories) → Inv Member m' x' → Agree Member x' y'
       → Alike Member x' (run_from k (n + 1) x'.flash m' x'.ram x'.tags) y' (run_from k (n + 1) y'.flash m' y'.ram y'.tags))
       → Agree Member x y → Agree Member (stepped m x) (stepped m y) → Fine Member m x t (stepped m x)
       → Alike Member x
       (elim t [
-        | Next d ↦ run_from k (n + 1) x.flash (commit m d) (stepped m x).ram (stepped m x).tags
-        | Stops fault ↦ record { outcome = stopped_at fault n m; ram = x.ram; tags = x.tags }
+        | Ok d ↦ run_from k (n + 1) x.flash (commit m d) (stepped m x).ram (stepped m x).tags
+        | Err fault ↦ record { outcome = stopped_at fault n m; ram = x.ram; tags = x.tags }
       ])
       y
       (elim t [
-        | Next d ↦ run_from k (n + 1) y.flash (commit m d) (stepped m y).ram (stepped m y).tags
-        | Stops fault ↦ record { outcome = stopped_at fault n m; ram = y.ram; tags = y.tags }
+        | Ok d ↦ run_from k (n + 1) y.flash (commit m d) (stepped m y).ram (stepped m y).tags
+        | Err fault ↦ record { outcome = stopped_at fault n m; ram = y.ram; tags = y.tags }
       ])
-  both k n m x y (Turn.Next d) on g h f = let a = on (commit m d) (stepped m x) (stepped m y) f.0 h in record { outcome = a.outcome; memories = a.memories }
-  both k n m x y (Turn.Stops fault) on g h f = record { outcome = refl; memories = g }
+  both k n m x y (Ok d) on g h f = let a = on (commit m d) (stepped m x) (stepped m y) f.0 h in record { outcome = a.outcome; memories = a.memories }
+  both k n m x y (Err fault) on g h f = record { outcome = refl; memories = g }
 
   run_same : (k n : ℕ) (m : Machine) (x y : Memories) → Inv Member m x → Agree Member x y
       → Alike Member x (run_from k n x.flash m x.ram x.tags) y (run_from k n y.flash m y.ram y.tags)

@@ -5,11 +5,11 @@ use Rattle.manual.specs.Place.{RAM_BASE}
 use Rattle.manual.specs.Store.{tag_of}
 use Rattle.manual.specs.declared.Cap.{Cap}
 use Rattle.manual.specs.Cap.{permits}
-use Rattle.manual.specs.Steps.{Result}
+use Rattle.manual.specs.Steps.{Ran}
 use Rattle.isolation.specs.Reach.{Memories, Covers, line_address, CanRead, CanLoad, CanWrite}
 
 -- the memories that a run leaves: no step writes flash
-abbrev pub left : Memories → Result → Memories
+abbrev pub left : Memories → Ran → Memories
 left x r = record { flash = x.flash; ram = r.ram; tags = r.tags }
 
 -- the bytes of c's range and its permissions are d's too
@@ -34,7 +34,7 @@ module _ (Member : Cap → Type 0) where
     pub tags : (i : ℕ) → CanLoad Member i → tag_of x.tags i ≡ tag_of y.tags i
 
   -- runs that stop alike: stop, cause, register, place, steps and machine, and what a member can read or load
-  pub record Alike (x : Memories) (r : Result) (y : Memories) (s : Result) : Type 0 where
+  pub record Alike (x : Memories) (r : Ran) (y : Memories) (s : Ran) : Type 0 where
     pub outcome : r.outcome ≡ s.outcome
     pub memories : Agree (left x r) (left y s)
 

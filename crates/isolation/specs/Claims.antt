@@ -1,20 +1,19 @@
 -- What is claimed of every run.
-use Rattle.std.specs.Prelude.{ℕ, ◌≡◌, ◌↔◌, length, get_or}
+use Rattle.std.specs.Prelude.{ℕ, ◌≡◌, ◌↔◌, length, get_or, Ok}
 use Rattle.manual.specs.declared.Cap.{Cap}
-use Rattle.manual.specs.declared.Verdict.{Verdict}
 use Rattle.manual.specs.Accept.{verdict_of}
 use Rattle.manual.specs.declared.Machine.{Machine}
-use Rattle.manual.specs.Steps.{Result}
+use Rattle.manual.specs.Steps.{Ran}
 use Rattle.manual.specs.Run.{run_of}
 use Rattle.isolation.specs.Reach.{Memories, Reach}
 use Rattle.isolation.specs.Agree.{Agree, Alike, Under, Kept, left}
 
 -- the machine's run over these memories, and that it does not refuse them
-abbrev pub ran : ℕ → Machine → Memories → Result
+abbrev pub ran : ℕ → Machine → Memories → Ran
 ran budget m x = run_of budget x.flash m x.ram x.tags
 
 abbrev pub Accepted : Machine → Memories → Type 0
-Accepted m x = verdict_of m.caps m.pcc m.pending (get_or m.general 0 0) (length x.flash) x.ram x.tags ≡ Verdict.Accepted
+Accepted m x = verdict_of m.caps m.pcc m.pending (get_or m.general 0 0) (length x.flash) x.ram x.tags ≡ Ok tt
 
 -- Demand 3. Two accepted starts with equal registers, PC, pending jump, cause and memory sizes, whose memories differ only where
 -- nothing within reach at the start can read, load or fetch, stop alike for any budget: same answer, steps and registers, and the

@@ -1,12 +1,11 @@
 -- What code can come to by the capabilities that it starts with (01, "Reach").
-use Rattle.std.specs.Prelude.{ℕ, ◌+◌, ◌*◌, ◌≤◌, ◌<◌, ◌≡◌, true, List, take, drop}
+use Rattle.std.specs.Prelude.{ℕ, ◌+◌, ◌*◌, ◌≤◌, ◌<◌, ◌≡◌, true, List, take, drop, Some}
 use Rattle.manual.specs.Number.{LINE}
 use Rattle.manual.specs.Place.{RAM_BASE}
 use Rattle.manual.specs.Store.{tag_of}
 use Rattle.manual.specs.declared.Cap.{Cap}
 use Rattle.manual.specs.Cap.{permits, EXECUTE, LOAD, STORE, LOAD_CAPABILITY, STORE_CAPABILITY}
 use Rattle.manual.specs.Line.{decode}
-use Rattle.manual.specs.declared.Pending.{Pending}
 use Rattle.manual.specs.declared.Machine.{Machine}
 use Rattle.manual.specs.State.{capability}
 
@@ -37,7 +36,7 @@ line_cap x line = decode (tag_of x.tags line) (take LINE (drop (line * LINE) x.r
 pub data Held (m : Machine) (c : Cap) : Type 0 where
   in_register : (i : ℕ) → i < 32 → capability m i ≡ c → Held m c
   in_pcc : m.pcc ≡ c → Held m c
-  in_pending : m.pending ≡ Pending.Jump c → Held m c
+  in_pending : m.pending ≡ Some c → Held m c
 
 -- The smallest set holding every tagged capability in C0..C31, PCC and the pending jump, and, for each member with
 -- Permit_Load_Capability, the capability of each tagged RAM line wholly in that member's range. Sealed members count like others.

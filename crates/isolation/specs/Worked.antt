@@ -1,11 +1,10 @@
 -- One pair of starts, worked out: the code of `bus` holds its text and the first line of RAM; the second line is another's, and differs.
-use Rattle.std.specs.Prelude.{ℕ, ◌+◌, ◌^◌, ◌≡◌, true, false, List, [], ◌∷◌, ◌++◌, replicate, set}
+use Rattle.std.specs.Prelude.{ℕ, ◌+◌, ◌^◌, ◌≡◌, true, false, List, [], ◌∷◌, ◌++◌, replicate, set, None}
 use Rattle.manual.specs.Number.{to_be}
 use Rattle.manual.specs.Place.{RAM_BASE}
 use Rattle.manual.specs.declared.Cap.{Cap}
 use Rattle.manual.specs.Cap.{EXECUTE, LOAD, LOAD_CAPABILITY}
 use Rattle.manual.specs.Narrow.{null}
-use Rattle.manual.specs.declared.Pending.{Pending}
 use Rattle.manual.specs.declared.Machine.{Machine}
 use Rattle.isolation.specs.Reach.{Memories, Reach, CanRead}
 use Rattle.isolation.specs.Agree.{Alike}
@@ -23,7 +22,7 @@ abbrev pub frame : Cap
 frame = over RAM_BASE 32 (2 ^ LOAD + 2 ^ LOAD_CAPABILITY)
 
 abbrev pub bus : Machine
-bus = record { general = replicate 32 0; caps = set (replicate 32 null) 1 frame; pcc = text; pending = Pending.Quiet; cause = 0 }
+bus = record { general = replicate 32 0; caps = set (replicate 32 null) 1 frame; pcc = text; pending = None; cause = 0 }
 
 -- CLBU r2 from C1 at 0, CLC C3 from C1 at 0, then BREAK
 abbrev pub image : List ℕ

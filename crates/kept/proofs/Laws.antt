@@ -1,4 +1,5 @@
 -- A capability through memory and back, by the machine's steps. Assumes nothing.
+use Rattle.std.specs.Prelude.{Result, Option, Ok, Err, Some, None}
 use Prim.Native.Nat.{ℕ, ◌+◌, ◌/◌, ◌≤◌, ◌<◌}
 use mathlib.Core.Path.{◌≡◌, refl, sym, ◌∙◌, ap}
 use mathlib.Core.Bool.{Bool, true, false, cond}
@@ -19,25 +20,22 @@ use Rattle.manual.proofs.Stores.{put-read, length-put, tag_is_set}
 use Rattle.manual.specs.declared.Cap.{Cap}
 use Rattle.manual.specs.Cap.{Within}
 use Rattle.manual.specs.Narrow.{null}
-use Rattle.manual.specs.declared.LoadedCap.{LoadedCap}
 use Rattle.manual.specs.Line.{encode, from_words, decode, cap_in, load_cap}
 use Rattle.manual.proofs.Lines.{cap_is_kept, bits_are_kept, length-encode}
 use Rattle.manual.specs.declared.Fault.{Fault}
 use Rattle.manual.specs.declared.Effect.{Effect}
-use Rattle.manual.specs.declared.Pending.{Pending}
 use Rattle.manual.specs.declared.Change.{Change}
-use Rattle.manual.specs.declared.Turn.{Turn}
 use Rattle.manual.specs.Perform.{to_capability, stored_turn, cap_turn, turn_of, ram_of, tags_of}
 use Rattle.manual.specs.declared.Machine.{Machine}
 use Rattle.manual.specs.State.{operands_of}
 use Rattle.manual.specs.Steps.{turn_at, ram_at, tags_at}
 use Rattle.kept.specs.Kept.{Plans, StoredAndLoaded, LoadedAndStored}
 
-no_turn : (A : Type 0) (f : Fault) (d : Change) → Turn.Stops f ≡ Turn.Next d → A
+no_turn : (A : Type 0) (f : Fault) (d : Change) → Err f ≡ Ok d → A
 no_turn A f d q = let z : ◌≡◌ {A = ℕ} 0 1 = cc in absurd (omega arith)
 
 -- a store that passed lies in RAM
-in_ram : (c0 : Cap) (cause : ℕ) (p : Place) (d : Change) → stored_turn c0 cause (answer_at p) ≡ Turn.Next d → (i : ℕ) × (p ≡ Ram i)
+in_ram : (c0 : Cap) (cause : ℕ) (p : Place) (d : Change) → stored_turn c0 cause (answer_at p) ≡ Ok d → (i : ℕ) × (p ≡ Ram i)
 in_ram c0 cause (Flash i) d e = no_turn _ _ _ e
 in_ram c0 cause (Ram i) d e = (i, refl)
 in_ram c0 cause Nowhere d e = no_turn _ _ _ e
@@ -60,7 +58,7 @@ module _ (flash ram tags : List ℕ) (a : Address) (i : ℕ) (p : place_in flash
   tag_there : (c : Cap) → tags_fit (length ram) (length tags) ≡ true → tag_at (with_tag tags (i / LINE) c.tag) (place_in flash (put ram i (encode c)) a 32) ≡ c.tag
   tag_there c t = rw (same_place c) (tag_is_set tags (i / LINE) c.tag (line_has_tag t))
 
-  loads_back : (c : Cap) → tags_fit (length ram) (length tags) ≡ true → Within c → load_cap flash (put ram i (encode c)) (with_tag tags (i / LINE) c.tag) a ≡ LoadedCap.Value c
+  loads_back : (c : Cap) → tags_fit (length ram) (length tags) ≡ true → Within c → load_cap flash (put ram i (encode c)) (with_tag tags (i / LINE) c.tag) a ≡ Some c
   unfolding load_cap cap_in
   loads_back c t w = rw (tag_there c t, bytes_there c, eq-eqb (length (encode c)) 32 (length-encode c), cap_is_kept c w)
 
@@ -74,7 +72,7 @@ module _ (flash ram tags : List ℕ) (m : Machine) (a : Address) where
   unfolding tags_at tags_of
   tags_left c i p e = rw (p, e)
 
-  lies_in_ram : (c : Cap) (d : Change) → Plans flash m ram (Effect.StoreCapability a c) → turn_at flash m ram tags ≡ Turn.Next d → (i : ℕ) × (place_in flash ram a 32 ≡ Ram i)
+  lies_in_ram : (c : Cap) (d : Change) → Plans flash m ram (Effect.StoreCapability a c) → turn_at flash m ram tags ≡ Ok d → (i : ℕ) × (place_in flash ram a 32 ≡ Ram i)
   unfolding turn_at turn_of
   lies_in_ram c d p q = in_ram _ _ (place_in flash ram a 32) d (rw p at q)
 
@@ -85,27 +83,27 @@ module _ (flash ram tags : List ℕ) (m : Machine) (a : Address) where
 pub stored_and_loaded : StoredAndLoaded
 stored_and_loaded flash ram tags m m' a c cd d t w p q p' =
     let r = lies_in_ram flash ram tags m a c d p q in
-    let e : load_cap flash (ram_at flash m ram) (tags_at flash m ram tags) a ≡ LoadedCap.Value c
+    let e : load_cap flash (ram_at flash m ram) (tags_at flash m ram tags) a ≡ Some c
     = rw (ram_left flash ram tags m a c r.0 p r.1, tags_left flash ram tags m a c r.0 p r.1) (loads_back flash ram tags a r.0 r.1 c t w) in
     load_turn flash (ram_at flash m ram) (tags_at flash m ram tags) m' a cd p' ∙ ap (cap_turn m'.cause cd) e
 
-abbrev turn_cap : Turn → Cap
-turn_cap (Turn.Next d) = d.cap
-turn_cap (Turn.Stops f) = null
+abbrev turn_cap : Result Change Fault → Cap
+turn_cap (Ok d) = d.cap
+turn_cap (Err f) = null
 
-value_is : (cause cd : ℕ) (l : LoadedCap) (c : Cap) → cap_turn cause cd l ≡ Turn.Next (to_capability cause cd c Pending.Quiet) → l ≡ LoadedCap.Value c
-value_is cause cd (LoadedCap.Value c') c e = ap LoadedCap.Value (ap turn_cap e)
-value_is cause cd LoadedCap.Nowhere c e = no_turn _ _ _ e
+value_is : (cause cd : ℕ) (l : Option Cap) (c : Cap) → cap_turn cause cd l ≡ Ok (to_capability cause cd c None) → l ≡ Some c
+value_is cause cd (Some c') c e = ap Some (ap turn_cap e)
+value_is cause cd None c e = no_turn _ _ _ e
 
-no_value : (A : Type 0) (c : Cap) → LoadedCap.Nowhere ≡ LoadedCap.Value c → A
+no_value : (A : Type 0) (c : Cap) → None ≡ Some c → A
 no_value A c q = let z : ◌≡◌ {A = ℕ} 0 1 = cc in absurd (omega arith)
 
-abbrev loaded_cap : LoadedCap → Cap
-loaded_cap (LoadedCap.Value c) = c
-loaded_cap LoadedCap.Nowhere = null
+abbrev loaded_cap : Option Cap → Cap
+loaded_cap (Some c) = c
+loaded_cap None = null
 
 -- a part that was loaded is a line, and it says the capability
-is_line_lem : (tag whole : Bool) (part : List ℕ) (c : Cap) → eqb (length part) 32 ≡ whole → cond whole (LoadedCap.Value (decode tag part)) LoadedCap.Nowhere ≡ LoadedCap.Value c → (length part ≡ 32) × (decode tag part ≡ c)
+is_line_lem : (tag whole : Bool) (part : List ℕ) (c : Cap) → eqb (length part) 32 ≡ whole → cond whole (Some (decode tag part)) None ≡ Some c → (length part ≡ 32) × (decode tag part ≡ c)
 is_line_lem tag true part c h e = (eqb-true (length part) 32 h, ap loaded_cap e)
 is_line_lem tag false part c h e = no_value _ _ e
 
@@ -126,7 +124,7 @@ tag_of : (tag : Bool) (part : List ℕ) → (decode tag part).tag ≡ tag
 unfolding decode from_words
 tag_of tag part = refl
 
-read_line : (flash ram tags : List ℕ) (a : Address) (c : Cap) → Bytes flash → Bytes ram → load_cap flash ram tags a ≡ LoadedCap.Value c
+read_line : (flash ram tags : List ℕ) (a : Address) (c : Cap) → Bytes flash → Bytes ram → load_cap flash ram tags a ≡ Some c
     → (encode c ≡ bytes_of flash ram a 32) × (c.tag ≡ tag_at tags (place_in flash ram a 32))
 unfolding load_cap cap_in bytes_of
 read_line flash ram tags a c f r e =

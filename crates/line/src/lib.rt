@@ -4,9 +4,10 @@
 ghost use Rattle.std.specs.Prelude.{◌≡◌, length};
 ghost use Rattle.manual.specs.Line.{decode, cap_in, load_cap};
 
-use manual::{Address, Cap, LINE, LoadedCap};
+use manual::{Address, Cap, LINE};
 
 // The capability that 32 bytes hold, with this tag.
+#[tactic(auto, unfolding(manual::specs::Line::word, manual::specs::Line::from_words, manual::specs::Line::decode))]
 fn read_line(line: &[u8], tag: bool) -> Cap
     requires { length line.now ≡ 32 }
     ensures { result ≡ decode tag line.now }
@@ -29,18 +30,20 @@ fn read_line(line: &[u8], tag: bool) -> Cap
 }
 
 // The capability in the bytes that were handed out; none where they are no line.
-pub fn cap_in(part: &[u8], tag: bool) -> LoadedCap
+#[tactic(auto, unfolding(manual::specs::Line::cap_in))]
+pub fn cap_in(part: &[u8], tag: bool) -> Option<Cap>
     ensures { result ≡ cap_in tag part.now }
 {
     if part.len() == LINE {
-        LoadedCap::Value(read_line(part, tag))
+        Some(read_line(part, tag))
     } else {
-        LoadedCap::Nowhere
+        None
     }
 }
 
 // A capability load: with the line's tag from RAM, untagged from flash.
-pub fn load<'a>(flash: &'a [u8], ram: &'a [u8], tags: &[u8], a: Address) -> LoadedCap
+#[tactic(auto, unfolding(manual::specs::Line::load_cap))]
+pub fn load<'a>(flash: &'a [u8], ram: &'a [u8], tags: &[u8], a: Address) -> Option<Cap>
     ensures { result ≡ load_cap flash.now ram.now tags.now a }
 {
     let place = mem::place_of(flash.len(), ram.len(), a, LINE);

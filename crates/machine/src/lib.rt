@@ -4,19 +4,19 @@
 ghost use Rattle.std.specs.Prelude.{◌≡◌};
 ghost use Rattle.manual.specs.Run.{run_of};
 
-use manual::{Machine, Outcome, Verdict};
+use manual::{Machine, Outcome};
 
-// A run: the start is judged first, and a refused one comes back as it came.
+// A run: the start is judged first, and a refused one comes back as it came. The memories are lent one by one, here and below: C lends
+// them so, and what is promised of each names its final bytes.
+#[tactic(auto, unfolding(manual::specs::Run::run_of))]
 pub fn run(m: Machine, flash: &[u8], ram: &mut [u8], tags: &mut [u8], budget: u32) -> Outcome
     ensures value { result ≡ (run_of budget flash.now m ram.old tags.old).outcome }
     ensures ram_after { ram.new ≡ (run_of budget flash.now m ram.old tags.old).ram }
     ensures tags_after { tags.new ≡ (run_of budget flash.now m ram.old tags.old).tags }
 {
-    let first = m.general[0];
-    let verdict = start::accept(m.caps, m.pcc, m.pending, first, flash.len(), ram, tags);
-    match verdict {
-        Verdict::Refused(refusal) => ending::refused(refusal, m),
-        Verdict::Accepted => steps::go(m, flash, ram, tags, budget),
+    match start::accept(&m, flash.len(), ram, tags) {
+        Err(refusal) => ending::refused(refusal, m),
+        Ok(()) => steps::go(m, flash, ram, tags, budget),
     }
 }
 

@@ -2,10 +2,11 @@
 #![tactic(auto)]
 
 ghost use Rattle.std.specs.Prelude.{◌≡◌};
-ghost use Rattle.tables.specs.Tables.{general_in, cap_count, cap_in, with_named, machine_in, machine_end};
+ghost use Rattle.tables.specs.Tables.{general_in, with_value, cap_count, cap_in, with_named, with_cap, machine_in, machine_end};
 
-use manual::{Address, Cap, Machine, Offset, Pending};
+use manual::{Address, Cap, Machine, Offset};
 
+// The numbers that a case's bytes give to PCC and to the pending jump.
 const PCC: u8 = 32;
 
 const PENDING: u8 = 33;
@@ -17,11 +18,23 @@ fn cap_count(body: &[u8], start: usize) -> usize
     let count = tables::after(start, 2);
     tables::after(
         tables::after(count, 1),
-        9 * num::wide(tables::byte(body, count)),
+        9 * usize::from(tables::byte(body, count)),
     )
 }
 
-// The general registers of the machine that stands at `start`.
+// Writes the value that stands at `at` to the general register that its number names. A test, as `get_mut` does not say
+// what the whole becomes.
+#[tactic(auto, using(tables::proofs::Laws::value_set, tables::proofs::Laws::value_none))]
+fn put_value(general: &mut [u64; 32], body: &[u8], at: usize)
+    ensures { general.new ≡ with_value body.now at general.old }
+{
+    let register = usize::from(tables::byte(body, at));
+    if register < general.len() {
+        general[register] = tables::number(body, tables::after(at, 1), 8);
+    }
+}
+
+// The general registers of the machine that stands at `start`. No chunks, here and below: entries may run past the bytes.
 fn general_in(body: &[u8], start: usize) -> [u64; 32]
     ensures { result ≡ general_in body.now start }
 {
@@ -29,60 +42,50 @@ fn general_in(body: &[u8], start: usize) -> [u64; 32]
     let count = tables::after(start, 2);
     let mut at = tables::after(count, 1);
     for _ in 0..tables::byte(body, count) {
-        let register = num::wide(tables::byte(body, at));
-        let value = tables::number(body, tables::after(at, 1), 8);
-        if register < 32 {
-            general[register] = value;
-        }
+        put_value(&mut general, body, at);
         at = tables::after(at, 9);
     }
     general
 }
 
 // The capability of these bytes, as a case has it.
+#[tactic(auto, unfolding(tables::specs::Tables::cap_in))]
 fn cap_in(fields: &[u8]) -> Cap
     ensures { result ≡ cap_in fields.now }
 {
-    let base = Address(tables::number(fields, 11, 8));
-    let offset = Offset(tables::number(fields, 27, 8));
     Cap {
         tag: tables::byte(fields, 0) == 1,
         sealed: tables::byte(fields, 1) == 1,
         spare: tables::byte(fields, 2),
         otype: tables::number_4(fields, 3),
         perms: tables::number_4(fields, 7),
-        base,
+        base: Address(tables::number(fields, 11, 8)),
         length: tables::number(fields, 19, 8),
-        offset,
+        offset: Offset(tables::number(fields, 27, 8)),
     }
 }
 
 // The machine with this capability in the place that its number names.
+#[tactic(auto, unfolding(tables::specs::Tables::with_named))]
 fn with_named(mut m: Machine, number: u8, c: Cap) -> Machine
     ensures { result ≡ with_named number c m }
 {
-    if number < 32 {
-        let i = number as usize;
-        m.caps[i] = c;
-        return m;
-    }
-    if number == PCC {
-        m.pcc = c;
-        return m;
-    }
-    if number == PENDING {
-        let general = m.general;
-        let caps = m.caps;
-        let pcc = m.pcc;
-        return Machine {
-            general,
-            caps,
-            pcc,
-            pending: Pending::Jump(c),
-            cause: m.cause,
-        };
+    match number {
+        0..32 => m.caps[usize::from(number)] = c,
+        PCC => m.pcc = c,
+        PENDING => m.pending = Some(c),
+        _ => {}
     }
     m
+}
+
+// The machine with the capability that stands at `at`.
+#[tactic(auto, unfolding(tables::specs::Tables::with_cap))]
+fn with_cap(m: Machine, body: &[u8], at: usize) -> Machine
+    ensures { result ≡ with_cap body.now at m }
+{
+    let fields = tables::part(body, tables::after(at, 1), 35);
+    with_named(m, tables::byte(body, at), cap_in(fields))
 }
 
 // The machine that stands at `start`.
@@ -95,17 +98,13 @@ pub fn machine_in(body: &[u8], start: usize) -> Machine
         general,
         caps: [none; 32],
         pcc: none,
-        pending: Pending::Quiet,
+        pending: None,
         cause: (tables::number(body, start, 2) % 0x1_0000) as u16,
     };
     let count = cap_count(body, start);
     let mut at = tables::after(count, 1);
     for _ in 0..tables::byte(body, count) {
-        m = with_named(
-            m,
-            tables::byte(body, at),
-            cap_in(tables::part(body, tables::after(at, 1), 35)),
-        );
+        m = with_cap(m, body, at);
         at = tables::after(at, 36);
     }
     m
@@ -116,5 +115,8 @@ pub fn machine_end(body: &[u8], start: usize) -> usize
     ensures { result ≡ machine_end body.now start }
 {
     let at = cap_count(body, start);
-    tables::after(tables::after(at, 1), 36 * num::wide(tables::byte(body, at)))
+    tables::after(
+        tables::after(at, 1),
+        36 * usize::from(tables::byte(body, at)),
+    )
 }

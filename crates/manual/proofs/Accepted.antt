@@ -1,4 +1,5 @@
 -- What an accepted start says of each register and line. Assumes nothing.
+use Rattle.std.specs.Prelude.{Option, Ok, Err, Result}
 use Prim.Native.Nat.{ℕ, zero, suc, ◌+◌, ◌-◌, ◌*◌, ◌/◌, ◌%◌, ◌^◌, ◌≤◌, ◌<◌}
 use mathlib.Core.Path.{◌≡◌, refl, sym, ◌∙◌, ap, subst}
 use mathlib.Core.Bool.{Bool, true, false, cond, not, ◌&&◌}
@@ -14,9 +15,7 @@ use Rattle.manual.specs.declared.Place.{Place}
 use Rattle.manual.specs.declared.Cap.{Cap}
 use Rattle.manual.specs.Narrow.{null}
 use Rattle.manual.specs.Line.{from_words, decode, cap_in, load_cap}
-use Rattle.manual.specs.declared.Pending.{Pending}
 use Rattle.manual.specs.declared.Refusal.{Refusal}
-use Rattle.manual.specs.declared.Verdict.{Verdict}
 use Rattle.manual.proofs.Tests.{both_true}
 use Rattle.manual.specs.Accept.{every, sizes_fit, tag_bytes_fit, top_fits, caps_fit, jump_fits, loaded_fits, line_at, line_fits, lines_fit, width_fits, widths_fit, jump_width, verdict_of}
 
@@ -35,7 +34,8 @@ each (suc n) i p e j h k = go (eqb i j) refl (λ l. each n (suc i) p (cond_true 
     go false z later = later (omega (arith, eqb-false i j z))
 
 -- an accepted start passed every test
-tests : (a b d e : Bool) → Verdict.Accepted ≡ cond a (cond b (cond d (cond e Verdict.Accepted (Verdict.Refused Refusal.Width)) (Verdict.Refused Refusal.Top)) (Verdict.Refused Refusal.TagByte)) (Verdict.Refused Refusal.Sizes)
+tests : (a b d e : Bool)
+    → ◌≡◌ {A = Result (Unit {0}) Refusal} (Ok tt) (cond a (cond b (cond d (cond e (Ok tt) (Err Refusal.Width)) (Err Refusal.Top)) (Err Refusal.TagByte)) (Err Refusal.Sizes))
     → (a ≡ true) × (b ≡ true) × (d ≡ true) × (e ≡ true)
 tests true true true true q = (refl, refl, refl, refl)
 tests true true true false q = let z : ◌≡◌ {A = ℕ} 0 1 = cc in absurd (omega arith)
@@ -43,7 +43,7 @@ tests true true false e q = let z : ◌≡◌ {A = ℕ} 0 1 = cc in absurd (omeg
 tests true false d e q = let z : ◌≡◌ {A = ℕ} 0 1 = cc in absurd (omega arith)
 tests false b d e q = let z : ◌≡◌ {A = ℕ} 0 1 = cc in absurd (omega arith)
 
-module _ (caps : List Cap) (pcc : Cap) (pending : Pending) (first flash : ℕ) (ram tags : List ℕ) (v : Verdict.Accepted ≡ verdict_of caps pcc pending first flash ram tags) where
+module _ (caps : List Cap) (pcc : Cap) (pending : Option Cap) (first flash : ℕ) (ram tags : List ℕ) (v : (Ok tt) ≡ verdict_of caps pcc pending first flash ram tags) where
   passed : (sizes_fit flash (length ram) (length tags) ≡ true) × (tag_bytes_fit tags ≡ true) × (((caps_fit caps && (top_fits pcc && jump_fits pending)) && lines_fit ram tags) ≡ true) × (((widths_fit caps && (width_fits pcc && jump_width pending)) && eqb first 0) ≡ true)
   unfolding verdict_of
   passed =

@@ -1,22 +1,32 @@
--- The laws of a chain of checks: one line of a function's proof for each line of its `do` block. Assumes nothing.
+-- What a function of checks returns: where a `?` ends it, and after its last check. Assumes nothing.
 use mathlib.Core.Path.{◌≡◌, refl}
-use mathlib.Core.Bool.{Bool, true, false}
-use Rattle.manual.specs.declared.Check.{Check}
-use Rattle.manual.specs.declared.Check.TheVariants.{Passed, Failed}
-use Rattle.manual.specs.Checks.{Checked, fork, settle, finish}
+use Rattle.std.specs.Result.{IsErrAnd}
+use Rattle.std.specs.Prelude.{Bool, true, false, Result, Ok, Err}
+use Rattle.manual.specs.declared.Fault.{Fault}
+use Rattle.manual.specs.declared.Effect.{Effect}
+use Rattle.manual.specs.Checks.{Checked, Guards, ok, guard, finish, settle}
 
--- before the first check
-pub start : (rest : Checked) → finish Passed rest ≡ settle rest
-unfolding finish settle
-start rest = refl
+pub stops : {T E : Type 0} (r : Result T E) {e : E} {whole : Result T E} → IsErrAnd r (λ x. x ≡ e) → Err e ≡ whole → r ≡ whole
+stops (Ok x) h then = absurd h
+stops (Err y) h then = rw h then
 
--- a fork whose test is known
-pub one_way : (k : Check) (test : Bool) (one other : Checked) → test ≡ true → finish k one ≡ finish k (fork test one other)
+-- the last check of a chain, whose answer is the function's
+pub last : (r : Result (Unit {0}) Fault) (holds : Bool) (fault : Fault) → Guards holds fault r → (rest : Checked) → finish r rest ≡ settle (guard holds fault rest)
 unfolding finish settle
-one_way Passed test one other h = rw h
-one_way (Failed f) test one other h = refl
+last (Ok _) holds fault h rest = rw h
+last (Err f) holds fault h rest = rw (h.0, h.1)
 
-pub other_way : (k : Check) (test : Bool) (one other : Checked) → test ≡ false → finish k other ≡ finish k (fork test one other)
-unfolding finish settle
-other_way Passed test one other h = rw h
-other_way (Failed f) test one other h = refl
+-- a check that passed: what follows decides
+pub passes : (holds : Bool) (fault : Fault) (rest : Checked) → holds ≡ true → settle rest ≡ settle (guard holds fault rest)
+unfolding settle
+passes holds fault rest h = rw h
+
+-- after the last check
+pub does : (effect : Effect) → Ok effect ≡ settle (ok effect)
+unfolding settle
+does effect = refl
+
+-- a check that failed decides
+pub breaks : (holds : Bool) (f fault : Fault) (rest : Checked) → (holds ≡ false) × (f ≡ fault) → Err f ≡ settle (guard holds fault rest)
+unfolding settle
+breaks holds f fault rest h = rw (h.0, h.1)

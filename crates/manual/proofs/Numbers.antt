@@ -99,14 +99,6 @@ store-left n v i h h' =
     let e : n - (i - 1) ≡ suc (n - i) = omega arith in
     rw (e, pow-suc, div-div-eq-div-mul)
 
-pub store_all : (p : List ℕ) (v i : ℕ) → i ≤ 0 → take i p ++ to_be (length p - i) v ≡ to_be (length p) v
-store_all p v i h = let e : i ≡ 0 = omega arith in rw (e, sub-zero)
-
--- a difference mod 2^64, as a wrapping subtraction tells it
-pub difference : (a b r : ℕ) → (r + b) % 2 ^ 64 ≡ a → b < 2 ^ 64 → r < 2 ^ 64 → r ≡ minus_mod a b
-unfolding minus_mod
-difference a b r e hb hr = omega arith
-
 -- an access has a byte
 pub some_bytes : (size : Size) → 0 < bytes_in size
 some_bytes One = omega arith

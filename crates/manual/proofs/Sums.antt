@@ -1,4 +1,5 @@
 -- The laws of the exact sum and of the access test. Assumes nothing.
+use Rattle.std.specs.Prelude.{Result, Ok, Err, Some, None, Option}
 use Prim.Native.Nat.{ℕ, suc, ◌+◌, ◌-◌, ◌%◌, ◌^◌, ◌≤◌, ◌<◌}
 use mathlib.Core.Path.{◌≡◌, refl, ap}
 use mathlib.Core.Bool.{Bool, true, false, cond}
@@ -10,21 +11,20 @@ use lib.IntN.{ℤ, pos, negsuc, +ℤ_assoc, +ℤ_comm}
 use Rattle.manual.specs.declared.Address.{Address}
 use Rattle.manual.specs.declared.Offset.{Offset}
 use Rattle.manual.specs.Number.{plus_mod, address_at}
-use Rattle.manual.specs.declared.Sum.{Sum}
-use Rattle.manual.specs.declared.Access.{Access}
 use Rattle.manual.specs.Sum.{offset_of, net}
 use Rattle.manual.specs.Access.{signed, sum_of, aligned, placed_at, placed_from}
+use Rattle.manual.specs.declared.Unfit.{Unfit}
 
 -- up - down, by the cases of the answer
-pub net_at : (u d v : ℕ) → d ≤ u → u - d ≡ v → v < 2 ^ 64 → Sum.At (record { 0 = v }) ≡ net u d
+pub net_at : (u d v : ℕ) → d ≤ u → u - d ≡ v → v < 2 ^ 64 → Some (record { 0 = v }) ≡ net u d
 unfolding net offset_of
 net_at u d v h e k = rw (le-ltb u d h, e, lt-ltb v (2 ^ 64) k)
 
-pub net_low : (u d : ℕ) → u < d → Sum.Outside ≡ net u d
+pub net_low : (u d : ℕ) → u < d → None ≡ net u d
 unfolding net offset_of
 net_low u d h = rw (lt-ltb u d h)
 
-pub net_high : (u d : ℕ) → d + 2 ^ 64 ≤ u → Sum.Outside ≡ net u d
+pub net_high : (u d : ℕ) → d + 2 ^ 64 ≤ u → None ≡ net u d
 unfolding net offset_of
 net_high u d h = rw (le-ltb u d (omega arith), le-ltb (u - d) (2 ^ 64) (omega arith))
 
@@ -60,39 +60,39 @@ unfolding net sum_of
 down_down o rt imm h f k g b =
     rw (signed_down rt h, signed_down imm k, add-zero, ← magnitude rt f, ← magnitude imm g, le-ltb o (suc (2 ^ 64 - suc rt)) (omega arith))
 
-pub below : (o rt imm : ℕ) → 2 ^ 63 ≤ rt → rt < 2 ^ 64 → 2 ^ 63 ≤ imm → o < 2 ^ 64 - 1 - rt + 1 → Sum.Outside ≡ offset_of (sum_of o rt imm)
+pub below : (o rt imm : ℕ) → 2 ^ 63 ≤ rt → rt < 2 ^ 64 → 2 ^ 63 ≤ imm → o < 2 ^ 64 - 1 - rt + 1 → None ≡ offset_of (sum_of o rt imm)
 unfolding sum_of offset_of
 below o rt imm h f k b = rw (signed_down rt h, signed_down imm k, lt-ltb o (suc (2 ^ 64 - suc rt)) (omega arith))
 
 -- the test, by its cases
-pub too_long : (b n o s : ℕ) → n < o + s → Access.Length ≡ placed_at b n o s
+pub too_long : (b n o s : ℕ) → n < o + s → (Err Unfit.Length) ≡ placed_at b n o s
 unfolding placed_at
 too_long b n o s h = rw (lt-leb (o + s) n h)
 
-pub too_high : (b n o s : ℕ) → o + s ≤ n → 2 ^ 64 < b + (o + s) → Access.Length ≡ placed_at b n o s
+pub too_high : (b n o s : ℕ) → o + s ≤ n → 2 ^ 64 < b + (o + s) → (Err Unfit.Length) ≡ placed_at b n o s
 unfolding placed_at
 too_high b n o s h k = rw (le-leb (o + s) n h, lt-leb (b + o + s) (2 ^ 64) (omega arith))
 
-pub fitting : (b n o s : ℕ) {x : Access} → o + s ≤ n → b + (o + s) ≤ 2 ^ 64
-    → x ≡ cond (aligned (b + o) s) (Access.At (record { 0 = b + o })) Access.Misaligned → x ≡ placed_at b n o s
+pub fitting : (b n o s : ℕ) {x : Result Address Unfit} → o + s ≤ n → b + (o + s) ≤ 2 ^ 64
+    → x ≡ cond (aligned (b + o) s) (Ok (record { 0 = b + o })) (Err Unfit.Misaligned) → x ≡ placed_at b n o s
 unfolding placed_at
 fitting b n o s h k e = rw (le-leb (o + s) n h, le-leb (b + o + s) (2 ^ 64) (omega arith)) e
 
 -- what an answer of the sum says of the access
-same_offset : (t : Bool) (o k : ℕ) → Sum.At (record { 0 = o }) ≡ cond t (Sum.At (record { 0 = k })) Sum.Outside → o ≡ k
+same_offset : (t : Bool) (o k : ℕ) → ◌≡◌ {A = Option Offset} (Some (record { 0 = o })) (cond t (Some (record { 0 = k })) None) → o ≡ k
 same_offset true o k e = let r : ◌≡◌ {A = Offset} (record { 0 = o }) (record { 0 = k }) = cc in ap (λ (x : Offset). x.0) r
 same_offset false o k e = cc
 
-pub sum_in : (b n s o : ℕ) (z : ℤ) → Sum.At (record { 0 = o }) ≡ offset_of z → placed_at b n o s ≡ placed_from b n z s
+pub sum_in : (b n s o : ℕ) (z : ℤ) → Some (record { 0 = o }) ≡ offset_of z → placed_at b n o s ≡ placed_from b n z s
 unfolding offset_of placed_from
 sum_in b n s o (pos k) e = ap (λ (x : ℕ). placed_at b n x s) (same_offset (ltb k (2 ^ 64)) o k e)
 sum_in b n s o (negsuc k) e = cc
 
-past : (t : Bool) (k : ℕ) → ltb k (2 ^ 64) ≡ t → Sum.Outside ≡ cond t (Sum.At (record { 0 = k })) Sum.Outside → 2 ^ 64 ≤ k
+past : (t : Bool) (k : ℕ) → ltb k (2 ^ 64) ≡ t → ◌≡◌ {A = Option Offset} None (cond t (Some (record { 0 = k })) None) → 2 ^ 64 ≤ k
 past true k h e = let z : ◌≡◌ {A = ℕ} 0 1 = cc in absurd (omega arith)
 past false k h e = ltb-false k (2 ^ 64) h
 
-pub sum_out : (b n s : ℕ) (z : ℤ) → n < 2 ^ 64 → Sum.Outside ≡ offset_of z → Access.Length ≡ placed_from b n z s
+pub sum_out : (b n s : ℕ) (z : ℤ) → n < 2 ^ 64 → None ≡ offset_of z → (Err Unfit.Length) ≡ placed_from b n z s
 unfolding offset_of placed_from
 sum_out b n s (pos k) h e = let g : 2 ^ 64 ≤ k = past (ltb k (2 ^ 64)) k refl e in too_long b n k s (omega arith)
 sum_out b n s (negsuc k) h e = refl
@@ -103,5 +103,5 @@ unfolding plus_mod
 exact a base o size e h k = let f : a.0 ≡ (base.0 + o.0) % 2 ^ 64 = ap (λ (x : Address). x.0) e in omega arith
 
 pub answer : (a : Address) (x size : ℕ) (t : Bool) → a.0 ≡ x → t ≡ aligned a.0 size
-    → cond t (Access.At a) Access.Misaligned ≡ cond (aligned x size) (Access.At (record { 0 = x })) Access.Misaligned
+    → cond t (Ok a) (Err Unfit.Misaligned) ≡ cond (aligned x size) (Ok (record { 0 = x })) (Err Unfit.Misaligned)
 answer a x size t e f = rw (← e, f)

@@ -1,4 +1,5 @@
 -- The definitions on worked cases, where two tests could be taken in another order, or a rule the other way round. Assumes nothing.
+use Rattle.std.specs.Prelude.{Ok, Err, None}
 use Prim.Native.Nat.{◌^◌}
 use mathlib.Core.Path.{◌≡◌, refl}
 use mathlib.Core.Bool.{true, false}
@@ -6,13 +7,9 @@ use mathlib.Core.List.{[], ◌∷◌}
 use lib.ListN.{replicate}
 use Rattle.manual.specs.declared.Cap.{Cap}
 use Rattle.manual.specs.declared.Place.{Place}
-use Rattle.manual.specs.declared.Access.{Access}
 use Rattle.manual.specs.declared.Named.{Named}
 use Rattle.manual.specs.declared.Fault.{Fault}
-use Rattle.manual.specs.declared.Planned.{Planned}
-use Rattle.manual.specs.declared.Pending.{Pending}
 use Rattle.manual.specs.declared.Refusal.{Refusal}
-use Rattle.manual.specs.declared.Verdict.{Verdict}
 use Rattle.manual.specs.Number.{plus_mod}
 use Rattle.manual.specs.Cap.{register_open}
 use Rattle.manual.specs.Place.{place_of}
@@ -24,6 +21,7 @@ use Rattle.manual.specs.Narrow.{null, from_ptr}
 use Rattle.manual.specs.Seal.{c_seal}
 use Rattle.manual.specs.Compare.{is_less}
 use Rattle.manual.specs.Accept.{every, top_fits, verdict_of}
+use Rattle.manual.specs.declared.Unfit.{Unfit}
 
 -- all permissions, from address 0 on
 abbrev free : Cap
@@ -54,12 +52,12 @@ unfolding from_ptr
 null_of_zero = refl
 
 -- an offset, a register below zero and an immediate
-sum_is_exact : access_of free 0xfffffffffffffff0 8 8 ≡ Access.At (record { 0 = 0xfffff8 })
+sum_is_exact : access_of free 0xfffffffffffffff0 8 8 ≡ Ok (record { 0 = 0xfffff8 })
 unfolding access_of sum_of signed placed_from placed_at
 sum_is_exact = refl
 
 -- 8 bytes further lies 2^64, and not 0
-sum_does_not_wrap : access_of highest 8 0 8 ≡ Access.Length
+sum_does_not_wrap : access_of highest 8 0 8 ≡ (Err Unfit.Length)
 unfolding access_of sum_of signed placed_from placed_at
 sum_does_not_wrap = refl
 
@@ -76,7 +74,7 @@ unfolding place_of with_tag
 past_the_end_no_tag = refl
 
 -- a sealed capability is refused before a type past 24 bits is
-sealed_before_type : settle (c_seal free 1 shut past_24_bits) ≡ Planned.Fails (Fault.Raise SEAL 2)
+sealed_before_type : settle (c_seal free 1 shut past_24_bits) ≡ Err (Fault.Raise SEAL 2)
 unfolding c_seal settle register_open
 sealed_before_type = refl
 
@@ -97,6 +95,6 @@ top_fits_at_2_to_64 : top_fits to_the_top ≡ true
 top_fits_at_2_to_64 = refl
 
 -- 21 before 22
-tag_byte_before_top : verdict_of [] too_high Pending.Quiet 0 0 (replicate 32 0) (2 ∷ []) ≡ Verdict.Refused Refusal.TagByte
+tag_byte_before_top : verdict_of [] too_high None 0 0 (replicate 32 0) (2 ∷ []) ≡ Err Refusal.TagByte
 unfolding verdict_of every
 tag_byte_before_top = refl

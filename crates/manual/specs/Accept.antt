@@ -1,16 +1,13 @@
 -- Whether a start is accepted: 20 is tested before 21 before 22 before 24 (01, "Stop numbers").
-use Rattle.std.specs.Prelude.{ℕ, zero, suc, ◌+◌, ◌*◌, ◌%◌, ◌^◌, Bool, true, false, cond, not, ◌&&◌, List, [], length, get_or, eqb, ltb}
+use Rattle.std.specs.Prelude.{ℕ, zero, suc, ◌+◌, ◌*◌, ◌%◌, ◌^◌, Bool, true, false, cond, not, ◌&&◌, List, [], length, get_or, eqb, ltb, Result, Option, Ok, Err, Some, None}
 use Rattle.manual.specs.declared.Address.{Address}
 use Rattle.manual.specs.Place.{RAM_BASE, memory_fits, tags_fit}
 use Rattle.manual.specs.Store.{tag_of}
 use Rattle.manual.specs.declared.Cap.{Cap}
-use Rattle.manual.specs.declared.LoadedCap.{LoadedCap}
 use Rattle.manual.specs.Cap.{in_widths}
 use Rattle.manual.specs.Line.{load_cap}
 use Rattle.manual.specs.Narrow.{null}
-use Rattle.manual.specs.declared.Pending.{Pending}
 use Rattle.manual.specs.declared.Refusal.{Refusal}
-use Rattle.manual.specs.declared.Verdict.{Verdict}
 
 -- the n numbers from i on all pass
 unfoldable pub every : ℕ → ℕ → (ℕ → Bool) → Bool
@@ -32,13 +29,13 @@ top_fits c = not (c.tag && ltb (2 ^ 64) (c.base.0 + c.length))
 abbrev pub caps_fit : List Cap → Bool
 caps_fit caps = every 32 0 (λ i. top_fits (get_or caps i null))
 
-abbrev pub jump_fits : Pending → Bool
-jump_fits Pending.Quiet = true
-jump_fits (Pending.Jump c) = top_fits c
+abbrev pub jump_fits : Option Cap → Bool
+jump_fits None = true
+jump_fits (Some c) = top_fits c
 
-abbrev pub loaded_fits : LoadedCap → Bool
-loaded_fits (LoadedCap.Value c) = top_fits c
-loaded_fits LoadedCap.Nowhere = true
+abbrev pub loaded_fits : Option Cap → Bool
+loaded_fits (Some c) = top_fits c
+loaded_fits None = true
 
 -- the first byte of a line (there are at most 2,048)
 abbrev pub line_at : ℕ → Address
@@ -57,18 +54,18 @@ width_fits c = in_widths c.perms c.otype
 abbrev pub widths_fit : List Cap → Bool
 widths_fit caps = every 32 0 (λ i. width_fits (get_or caps i null))
 
-abbrev pub jump_width : Pending → Bool
-jump_width Pending.Quiet = true
-jump_width (Pending.Jump c) = width_fits c
+abbrev pub jump_width : Option Cap → Bool
+jump_width None = true
+jump_width (Some c) = width_fits c
 
-unfoldable pub verdict_of : List Cap → Cap → Pending → ℕ → ℕ → List ℕ → List ℕ → Verdict
+unfoldable pub verdict_of : List Cap → Cap → Option Cap → ℕ → ℕ → List ℕ → List ℕ → Result (Unit {0}) Refusal
 verdict_of caps pcc pending first flash ram tags =
     cond (sizes_fit flash (length ram) (length tags))
     (cond (tag_bytes_fit tags)
     (cond ((caps_fit caps && (top_fits pcc && jump_fits pending)) && lines_fit ram tags)
     (cond ((widths_fit caps && (width_fits pcc && jump_width pending)) && eqb first 0)
-    Verdict.Accepted
-    (Verdict.Refused Refusal.Width))
-    (Verdict.Refused Refusal.Top))
-    (Verdict.Refused Refusal.TagByte))
-    (Verdict.Refused Refusal.Sizes)
+    (Ok tt)
+    (Err Refusal.Width))
+    (Err Refusal.Top))
+    (Err Refusal.TagByte))
+    (Err Refusal.Sizes)

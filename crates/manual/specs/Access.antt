@@ -1,7 +1,10 @@
 -- The test of an access, over whole numbers (01, "Access and fetch").
-use Rattle.std.specs.Prelude.{ℕ, suc, ◌+◌, ◌-◌, ◌%◌, ◌^◌, Bool, cond, ◌&&◌, ltb, leb, eqb, ℤ, pos, negsuc, ◌+ℤ◌}
+use Rattle.std.specs.Prelude.{ℕ, suc, ◌+◌, ◌-◌, ◌%◌, ◌^◌, Bool, cond, ◌&&◌, ltb, leb, eqb, ℤ, pos, negsuc, ◌+ℤ◌, Result, Ok, Err}
 use Rattle.manual.specs.declared.Cap.{Cap}
-use Rattle.manual.specs.declared.Access.{Access}
+use Rattle.manual.specs.declared.Address.{Address}
+use Rattle.manual.specs.declared.Unfit.{Unfit}
+use Rattle.manual.specs.declared.Fault.{Fault}
+use Rattle.manual.specs.Checks.{LENGTH}
 
 -- the signed number that 64 bits say
 unfoldable pub signed : ℕ → ℤ
@@ -20,15 +23,22 @@ abbrev pub aligned : ℕ → ℕ → Bool
 aligned address size = eqb (address % size) 0
 
 -- Length is raised unless it fits; then alignment of base + o to the size
-unfoldable pub placed_at : ℕ → ℕ → ℕ → ℕ → Access
+unfoldable pub placed_at : ℕ → ℕ → ℕ → ℕ → Result Address Unfit
 placed_at base length o size =
     cond (fits base length o size)
-    (cond (aligned (base + o) size) (Access.At (record { 0 = base + o })) Access.Misaligned)
-    Access.Length
+    (cond (aligned (base + o) size) (Ok (record { 0 = base + o })) (Err Unfit.Misaligned))
+    (Err Unfit.Length)
 
-unfoldable pub placed_from : ℕ → ℕ → ℤ → ℕ → Access
+unfoldable pub placed_from : ℕ → ℕ → ℤ → ℕ → Result Address Unfit
 placed_from base length (pos o) size = placed_at base length o size
-placed_from base length (negsuc k) size = Access.Length
+placed_from base length (negsuc k) size = Err Unfit.Length
 
-unfoldable pub access_of : Cap → ℕ → ℕ → ℕ → Access
+unfoldable pub access_of : Cap → ℕ → ℕ → ℕ → Result Address Unfit
 access_of c rt immediate size = placed_from c.base.0 c.length (sum_of c.offset.0 rt immediate) size
+
+-- 01: Length, then alignment, then memory. Where the bytes lie is for memory to say; which stop misalignment gives, for the instruction.
+-- The pages' tests leave out cb.offset; 01 counts it, and so does access_of.
+abbrev pub placed : Result Address Unfit → ℕ → Fault → Result Address Fault
+placed (Ok a) register fault = Ok a
+placed (Err Unfit.Length) register fault = Err (Fault.Raise LENGTH register)
+placed (Err Unfit.Misaligned) register fault = Err fault

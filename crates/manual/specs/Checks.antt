@@ -1,15 +1,12 @@
 -- Checks as data: an instruction is a `do` block, one check a line, as 004's pseudocode has them.
-use Rattle.std.specs.Prelude.{ℕ, ◌+◌, ◌%◌, ◌≡◌, Bool, cond, not}
+use Rattle.std.specs.Prelude.{ℕ, ◌+◌, ◌%◌, ◌≡◌, Bool, true, false, cond, not, Result, Ok, Err}
+use Rattle.std.specs.Result.{MatchResult}
 use Rattle.manual.specs.declared.Cap.{Cap}
 use Rattle.manual.specs.Cap.{permits, access_bit, register_open}
 use Rattle.manual.specs.declared.Named.{Named}
 use Rattle.manual.specs.declared.Fault.{Fault}
 use Rattle.manual.specs.declared.Fault.TheVariants.{Raise, Misaligned, StoreMisaligned, Reserved, Nowhere, IntoFlash, Pending, Break}
 use Rattle.manual.specs.declared.Effect.{Effect}
-use Rattle.manual.specs.declared.Planned.{Planned}
-use Rattle.manual.specs.declared.Planned.TheVariants.{Does, Fails}
-use Rattle.manual.specs.declared.Check.{Check}
-use Rattle.manual.specs.declared.Check.TheVariants.{Passed, Failed}
 
 -- 01, "Stop numbers"
 abbrev pub stop_number : Fault → ℕ
@@ -59,10 +56,10 @@ pub data Checked : Type 0 where
   fork : Bool → Checked → Checked → Checked
 
 -- the first check that fails decides
-unfoldable pub settle : Checked → Planned
-settle (ok effect) = Does effect
-settle (fail fault) = Fails fault
-settle (guard holds fault rest) = cond holds (settle rest) (Fails fault)
+unfoldable pub settle : Checked → Result Effect Fault
+settle (ok effect) = Ok effect
+settle (fail fault) = Err fault
+settle (guard holds fault rest) = cond holds (settle rest) (Err fault)
 settle (fork test one other) = cond test (settle one) (settle other)
 
 -- one line of a `do` block after the other
@@ -85,11 +82,11 @@ unsealed c rest = that (not c.cap.sealed) SEAL c.number rest
 abbrev pub granted : ℕ → Named → Checked → Checked
 granted permission c rest = that (permits c.cap permission) (lacking permission) c.number rest
 
--- what the checks made so far leave of the rest
-unfoldable pub finish : Check → Checked → Planned
-finish Passed rest = settle rest
-finish (Failed fault) rest = Fails fault
+-- a check's answer, and what follows it where it passed
+unfoldable pub finish : Result (Unit {0}) Fault → Checked → Result Effect Fault
+finish (Ok _) rest = settle rest
+finish (Err fault) rest = Err fault
 
--- r is k with one check more
-abbrev pub Guards : Check → Bool → Fault → Check → Type 0
-Guards k holds fault r = (rest : Checked) → finish r rest ≡ finish k (guard holds fault rest)
+-- r is the answer of one check: it passes where it holds, and else raises its fault
+abbrev pub Guards : Bool → Fault → Result (Unit {0}) Fault → Type 0
+Guards holds fault r = MatchResult r (λ _. holds ≡ true) (λ f. (holds ≡ false) × (f ≡ fault))

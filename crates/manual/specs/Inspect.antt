@@ -1,16 +1,16 @@
 -- The instructions that look at a capability and leave it alone (004, chapter 4): each a page, one check a line.
 -- rd is a register's number, cb, cs and ct are registers with what they hold, rt is a general register's value.
-use Rattle.std.specs.Prelude.{ℕ, ◌%◌, ◌^◌, ◌≡◌, cond, eqb}
+use Rattle.std.specs.Prelude.{ℕ, ◌%◌, ◌^◌, cond, eqb, Result}
 use Rattle.std.specs.Int.Bits.{bit_and}
 use Rattle.manual.specs.Number.{address_at, offset_to}
 use Rattle.manual.specs.Store.{bit}
 use Rattle.manual.specs.declared.Cap.{Cap}
-use Rattle.manual.specs.Cap.{ACCESS_EPCC}
+use Rattle.manual.specs.Cap.{permits, ACCESS_EPCC}
 use Rattle.manual.specs.declared.Field.{Field}
-use Rattle.manual.specs.declared.Check.{Check}
 use Rattle.manual.specs.declared.Named.{Named}
 use Rattle.manual.specs.declared.Effect.{Effect}
-use Rattle.manual.specs.Checks.{Checked, ok, finish, settle, that, opened, tagged, granted, SEAL, TYPE, USER, NO_REGISTER, ◌>>◌}
+use Rattle.manual.specs.Checks.{Checked, Guards, ok, lacking, that, opened, tagged, granted, SEAL, TYPE, USER, NO_REGISTER, ◌>>◌}
+use Rattle.manual.specs.declared.Fault.{Fault}
 
 abbrev pub field_of : Field → Cap → ℕ
 field_of Field.Base c = c.base.0
@@ -76,5 +76,5 @@ c_check_type pcc cs cb = do
   ok Effect.Nothing
 
 -- r is the check that PCC may reach the cause register
-abbrev pub CauseOpen : Cap → Check → Type 0
-CauseOpen pcc r = (rest : Checked) → finish r rest ≡ settle (granted ACCESS_EPCC (itself pcc) rest)
+abbrev pub CauseOpen : Cap → Result (Unit {0}) Fault → Type 0
+CauseOpen pcc r = Guards (permits pcc ACCESS_EPCC) (Fault.Raise (lacking ACCESS_EPCC) NO_REGISTER) r

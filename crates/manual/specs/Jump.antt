@@ -1,6 +1,6 @@
 -- Branches, jumps and the two instructions that only raise (004, chapter 4): each a page, one check a line.
 -- cd is a register's number, cb a register with what it holds, rs and rt general registers' values, words a signed count as 64 bits.
-use Rattle.std.specs.Prelude.{ℕ, ◌+◌, ◌≡◌, leb}
+use Rattle.std.specs.Prelude.{ℕ, ◌+◌, ◌≡◌, leb, Result}
 use Rattle.manual.specs.declared.Cap.{Cap}
 use Rattle.manual.specs.Cap.{GLOBAL, EXECUTE}
 use Rattle.manual.specs.Access.{aligned}
@@ -8,8 +8,7 @@ use Rattle.manual.specs.Narrow.{inc_offset}
 use Rattle.manual.specs.declared.Named.{Named}
 use Rattle.manual.specs.declared.Fault.{Fault}
 use Rattle.manual.specs.declared.Effect.{Effect}
-use Rattle.manual.specs.declared.Check.{Check}
-use Rattle.manual.specs.Checks.{Checked, ok, fail, guard, finish, that, opened, tagged, unsealed, granted, LENGTH, CALL, RETURN, NO_REGISTER, ◌>>◌}
+use Rattle.manual.specs.Checks.{Checked, ok, fail, guard, finish, settle, that, opened, tagged, unsealed, granted, LENGTH, CALL, RETURN, NO_REGISTER, ◌>>◌}
 
 -- what both jumps ask of their target; offset + 4 <= length exactly (ruling A23)
 abbrev pub jumpable : Named → Checked → Checked
@@ -45,6 +44,6 @@ c_call cs = fail (Fault.Raise CALL cs)
 unfoldable pub c_return : Checked
 c_return = fail (Fault.Raise RETURN NO_REGISTER)
 
--- r is k with the checks of a jump more
-abbrev pub Asks : Check → Named → Check → Type 0
-Asks k cb r = (rest : Checked) → finish r rest ≡ finish k (jumpable cb rest)
+-- r is the answer of the checks of a jump
+abbrev pub Asks : Named → Result (Unit {0}) Fault → Type 0
+Asks cb r = (rest : Checked) → finish r rest ≡ settle (jumpable cb rest)

@@ -1,11 +1,10 @@
 -- A capability's 32 bytes in memory, and the capability that 32 bytes hold (01, "A capability").
-use Rattle.std.specs.Prelude.{ℕ, ◌+◌, ◌*◌, ◌/◌, ◌%◌, ◌^◌, List, ◌++◌, Bool, cond, length, take, drop, eqb}
+use Rattle.std.specs.Prelude.{ℕ, ◌+◌, ◌*◌, ◌/◌, ◌%◌, ◌^◌, List, ◌++◌, Bool, cond, length, take, drop, eqb, Option, Some, None}
 use Rattle.manual.specs.Number.{be, to_be, address_at, offset_to}
 use Rattle.manual.specs.Place.{place_of, bytes_of}
 use Rattle.manual.specs.Store.{bit, tag_at}
 use Rattle.manual.specs.declared.Address.{Address}
 use Rattle.manual.specs.declared.Cap.{Cap}
-use Rattle.manual.specs.declared.LoadedCap.{LoadedCap}
 
 -- first, from the top: spare (8), otype (24), permissions (31, bit 0 lowest), sealed (1, lowest)
 unfoldable pub first_word : Cap → ℕ
@@ -38,9 +37,9 @@ unfoldable pub decode : Bool → List ℕ → Cap
 decode tag l = from_words tag (word 0 l) (word 1 l) (word 2 l) (word 3 l)
 
 -- the capability in the bytes handed out
-unfoldable pub cap_in : Bool → List ℕ → LoadedCap
-cap_in tag part = cond (eqb (length part) 32) (LoadedCap.Value (decode tag part)) LoadedCap.Nowhere
+unfoldable pub cap_in : Bool → List ℕ → Option Cap
+cap_in tag part = cond (eqb (length part) 32) (Some (decode tag part)) None
 
 -- a load from RAM with the line's tag; a capability load from flash gives an untagged register
-unfoldable pub load_cap : List ℕ → List ℕ → List ℕ → Address → LoadedCap
+unfoldable pub load_cap : List ℕ → List ℕ → List ℕ → Address → Option Cap
 load_cap flash ram tags a = cap_in (tag_at tags (place_of (length flash) (length ram) a 32)) (bytes_of flash ram a 32)

@@ -1,10 +1,9 @@
 -- Where an access lies, and its bytes (01, "Memory").
-use Rattle.std.specs.Prelude.{ℕ, ◌+◌, ◌-◌, ◌/◌, ◌%◌, ◌^◌, List, [], Bool, cond, ◌&&◌, length, take, drop, leb, ltb, eqb}
+use Rattle.std.specs.Prelude.{ℕ, ◌+◌, ◌-◌, ◌/◌, ◌%◌, ◌^◌, List, [], Bool, cond, ◌&&◌, length, take, drop, leb, ltb, eqb, Option, Some, None}
 use Rattle.manual.specs.Number.{LINE, be}
 use Rattle.manual.specs.declared.Address.{Address}
 use Rattle.manual.specs.declared.Place.{Place}
 use Rattle.manual.specs.declared.Place.TheVariants.{Flash, Ram, Nowhere}
-use Rattle.manual.specs.declared.Loaded.{Loaded}
 
 -- flash starts at address 0, RAM here
 abbrev pub RAM_BASE : ℕ
@@ -37,10 +36,10 @@ unfoldable pub bytes_of : List ℕ → List ℕ → Address → ℕ → List ℕ
 bytes_of flash ram a size = part_of flash ram (place_of (length flash) (length ram) a size) size
 
 -- the number in the bytes handed out, of the 64 bits that a register holds
-unfoldable pub number_of : ℕ → List ℕ → Loaded
-number_of size part = cond (eqb (length part) size) (Loaded.Value (be part % 2 ^ 64)) Loaded.Nowhere
+unfoldable pub number_of : ℕ → List ℕ → Option ℕ
+number_of size part = cond (eqb (length part) size) (Some (be part % 2 ^ 64)) None
 
-abbrev pub load_of : List ℕ → List ℕ → Address → ℕ → Loaded
+abbrev pub load_of : List ℕ → List ℕ → Address → ℕ → Option ℕ
 load_of flash ram a size = number_of size (bytes_of flash ram a size)
 
 -- where an access of so many bytes lies

@@ -1,12 +1,11 @@
 -- The machine's registers, and what a step leaves in them (01, "What the model is" and "Stop numbers").
-use Rattle.std.specs.Prelude.{ℕ, ◌+◌, ◌*◌, ◌%◌, cond, List, get_or, set, eqb}
+use Rattle.std.specs.Prelude.{ℕ, ◌+◌, ◌*◌, ◌%◌, cond, List, get_or, set, eqb, Option, Some, None}
 use Rattle.manual.specs.declared.Cap.{Cap}
 use Rattle.manual.specs.Narrow.{null, inc_offset}
 use Rattle.manual.specs.Word.{field25, field20, field15, field10}
 use Rattle.manual.specs.declared.Fault.{Fault}
 use Rattle.manual.specs.Checks.{stop_number}
 use Rattle.manual.specs.declared.Operands.{Operands}
-use Rattle.manual.specs.declared.Pending.{Pending}
 use Rattle.manual.specs.declared.Change.{Change}
 use Rattle.manual.specs.declared.Machine.{Machine}
 use Rattle.manual.specs.declared.Outcome.{Outcome}
@@ -52,9 +51,9 @@ abbrev pub kept : ℕ → ℕ → ℕ
 kept rd value = cond (eqb rd 0) 0 value
 
 -- the jump takes effect after its slot; otherwise PC grows by 4 mod 2^64
-abbrev pub next_pcc : Cap → Pending → Cap
-next_pcc pcc Pending.Quiet = inc_offset pcc 4
-next_pcc pcc (Pending.Jump target) = target
+abbrev pub next_pcc : Cap → Option Cap → Cap
+next_pcc pcc None = inc_offset pcc 4
+next_pcc pcc (Some target) = target
 
 -- the machine with a step's change written
 unfoldable pub commit : Machine → Change → Machine

@@ -1,10 +1,10 @@
 -- Tags, and what a store leaves (01, "Memory").
-use Rattle.std.specs.Prelude.{ℕ, ◌+◌, ◌/◌, List, Bool, true, false, cond, length, get_or, set, leb, eqb}
+use Rattle.std.specs.Prelude.{ℕ, ◌+◌, ◌/◌, List, Bool, true, false, cond, length, get_or, set, leb, eqb, Result, Ok, Err}
 use Rattle.std.proofs.lemmas.List.Edits.{sets}
 use Rattle.manual.specs.Number.{LINE}
 use Rattle.manual.specs.declared.Place.{Place}
 use Rattle.manual.specs.declared.Place.TheVariants.{Flash, Ram, Nowhere}
-use Rattle.manual.specs.declared.Stored.{Stored}
+use Rattle.manual.specs.declared.Fault.{Fault}
 
 abbrev pub bit : Bool → ℕ
 bit true = 1
@@ -28,10 +28,10 @@ tag_at tags (Ram i) = tag_of tags (i / LINE)
 tag_at tags Nowhere = false
 
 -- a store goes into RAM alone
-abbrev pub answer_at : Place → Stored
-answer_at (Flash i) = Stored.Flash
-answer_at (Ram i) = Stored.Done
-answer_at Nowhere = Stored.Nowhere
+abbrev pub answer_at : Place → Result (Unit {0}) Fault
+answer_at (Flash i) = Err Fault.IntoFlash
+answer_at (Ram i) = Ok tt
+answer_at Nowhere = Err Fault.Nowhere
 
 -- the bytes from the place on, every other byte as it was
 abbrev pub ram_after : Place → List ℕ → List ℕ → List ℕ

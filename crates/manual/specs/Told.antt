@@ -1,8 +1,6 @@
 -- What is told of a start, of a book and of a run, and its numbers (01, "Stop numbers" and "Bench examples").
-use Rattle.std.specs.Prelude.{ℕ, cond, List, [], ◌∷◌, ◌++◌, length, drop, leb}
+use Rattle.std.specs.Prelude.{ℕ, cond, List, [], ◌∷◌, ◌++◌, length, drop, leb, Result, Ok, Err}
 use Rattle.manual.specs.declared.Refusal.{Refusal}
-use Rattle.manual.specs.declared.Verdict.{Verdict}
-use Rattle.manual.specs.declared.Written.{Written}
 use Rattle.manual.specs.declared.Answer.{Answer}
 
 abbrev pub refusal_number : Refusal → ℕ
@@ -18,19 +16,19 @@ refusal_number Refusal.Field = 34
 refusal_number Refusal.Waiting = 35
 refusal_number Refusal.Room = 36
 
+-- 0, or the number of the refusal
+abbrev pub code_of : {T : Type 0} → Result T Refusal → ℕ
+code_of (Ok x) = 0
+code_of (Err refusal) = refusal_number refusal
+
 -- the number that is printed for a book: 0 where it is accepted
-abbrev pub verdict_number : Verdict → ℕ
-verdict_number Verdict.Accepted = 0
-verdict_number (Verdict.Refused refusal) = refusal_number refusal
+abbrev pub verdict_number : Result (Unit {0}) Refusal → ℕ
+verdict_number verdict = code_of verdict
 
--- pommerzil_write returns 0 or the refusal, and says how many bytes it wrote
-abbrev pub code_of : Written → ℕ
-code_of (Written.Book bytes) = 0
-code_of (Written.Refused refusal) = refusal_number refusal
-
-abbrev pub bytes_of : Written → ℕ
-bytes_of (Written.Book bytes) = bytes
-bytes_of (Written.Refused refusal) = 0
+-- how many bytes pommerzil_write says it wrote
+abbrev pub bytes_of : Result ℕ Refusal → ℕ
+bytes_of (Ok bytes) = bytes
+bytes_of (Err refusal) = 0
 
 -- zeros where they do not apply
 abbrev pub refusing : Refusal → Answer

@@ -2,11 +2,11 @@
 #![tactic(auto)]
 
 // Counts from a base.
-#[derive(Clone, Copy)]
+#[derive(Clone, Copy, PartialEq, Eq, Default)]
 pub struct Offset(pub u64);
 
 // Counts from zero.
-#[derive(Clone, Copy)]
+#[derive(Clone, Copy, PartialEq, Eq, Default)]
 pub struct Address(pub u64);
 
 // The sizes of an access: of data, and a capability's line.
@@ -22,7 +22,7 @@ pub enum Size {
 pub const LINE: usize = 32;
 
 // A capability: its fields by 004, and the bits that no field has.
-#[derive(Clone, Copy)]
+#[derive(Clone, Copy, PartialEq, Eq, Default)]
 pub struct Cap {
     pub base: Address,
     pub length: u64,
@@ -34,20 +34,14 @@ pub struct Cap {
     pub sealed: bool,
 }
 
-// A jump that takes effect after the next instruction, or none.
-#[derive(Clone, Copy)]
-pub enum Pending {
-    Quiet,
-    Jump(Cap),
-}
-
 // The machine by value.
 #[derive(Clone, Copy)]
 pub struct Machine {
     pub general: [u64; 32],
     pub caps: [Cap; 32],
     pub pcc: Cap,
-    pub pending: Pending,
+    // A jump that takes effect after the next instruction.
+    pub pending: Option<Cap>,
     pub cause: u16,
 }
 
@@ -91,6 +85,7 @@ pub enum Compare {
 // What a word holds beside its register numbers; a signed number is in 64 bits.
 #[derive(Clone, Copy)]
 pub enum Instr {
+    // No instruction: a kind of word with a stop of its own (4) and a number in the table of the program `words`, so no Option.
     Reserved,
     Nop,
     Break,
@@ -137,7 +132,7 @@ pub enum Instr {
     PtrCompare(Compare),
 }
 
-// Where an access lies: at this index of the flash or of the RAM, or in neither.
+// Where an access lies: at this index of the flash or of the RAM, or in neither. Three places that are always told apart, so no Option of two.
 #[derive(Clone, Copy)]
 pub enum Place {
     Flash(usize),
@@ -145,39 +140,9 @@ pub enum Place {
     Nowhere,
 }
 
-// What a data load gives.
+// Which test an access fails.
 #[derive(Clone, Copy)]
-pub enum Loaded {
-    Value(u64),
-    Nowhere,
-}
-
-// What a capability load gives.
-#[derive(Clone, Copy)]
-pub enum LoadedCap {
-    Value(Cap),
-    Nowhere,
-}
-
-// What a store answers.
-#[derive(Clone, Copy)]
-pub enum Stored {
-    Done,
-    Flash,
-    Nowhere,
-}
-
-// An exact sum, where it is an offset: from 0 to 2^64 - 1.
-#[derive(Clone, Copy)]
-pub enum Sum {
-    At(Offset),
-    Outside,
-}
-
-// Where an access lies, or which test it fails.
-#[derive(Clone, Copy)]
-pub enum Access {
-    At(Address),
+pub enum Unfit {
     Length,
     Misaligned,
 }
@@ -202,7 +167,7 @@ pub enum Fault {
     Break,
 }
 
-// Table 3.3 of 004.
+// Table 3.3 of 004. Numbers and no enum: `checks::that` promises its answer for each cause, and a permission's cause is 0x10 and its number.
 pub const LENGTH: u8 = 1;
 
 pub const TAG: u8 = 2;
@@ -235,27 +200,6 @@ pub enum Effect {
     StoreCapability(Address, Cap),
 }
 
-// What an instruction does, or why it stops.
-#[derive(Clone, Copy)]
-pub enum Planned {
-    Does(Effect),
-    Fails(Fault),
-}
-
-// The checks made so far.
-#[derive(Clone, Copy)]
-pub enum Check {
-    Passed,
-    Failed(Fault),
-}
-
-// The word at PCC, or why there is none.
-#[derive(Clone, Copy)]
-pub enum Fetched {
-    Word(u32),
-    Stops(Fault),
-}
-
 // The registers that the word's fields 25..21, 20..16, 15..11 and 10..6 name, C0, PCC and the cause.
 #[derive(Clone, Copy)]
 pub struct Operands {
@@ -275,7 +219,7 @@ pub struct Operands {
     pub cause: u16,
 }
 
-// What a step writes; register 0 and C0 as it was stand for none.
+// What a step writes; register 0 and C0 as it was stand for none, so that every step writes one of each and none asks whether.
 #[derive(Clone, Copy)]
 pub struct Change {
     pub rd: u8,
@@ -283,17 +227,10 @@ pub struct Change {
     pub cd: u8,
     pub cap: Cap,
     pub cause: u16,
-    pub jump: Pending,
+    pub jump: Option<Cap>,
 }
 
-// What a step comes to.
-#[derive(Clone, Copy)]
-pub enum Turn {
-    Next(Change),
-    Stops(Fault),
-}
-
-// How a run ended: 01's stop or refusal, and the machine then.
+// How a run ended: 01's stop or refusal, and the machine then. The stop is 01's number, since that is what is told, and what the definitions of a run answer.
 #[derive(Clone, Copy)]
 pub struct Outcome {
     pub stop: u8,
@@ -318,20 +255,6 @@ pub enum Refusal {
     Field,
     Waiting,
     Room,
-}
-
-// Of a start, or of a book.
-#[derive(Clone, Copy)]
-pub enum Verdict {
-    Accepted,
-    Refused(Refusal),
-}
-
-// What the writer answers: the length of the book that it wrote, or why it wrote nothing.
-#[derive(Clone, Copy)]
-pub enum Written {
-    Book(usize),
-    Refused(Refusal),
 }
 
 // What the bench prints: stop or refusal, cause code, register, place, steps, zeros where they do not apply.

@@ -5,7 +5,7 @@ ghost use Rattle.std.specs.Prelude.{◌≡◌, ◌+◌, leb};
 ghost use Rattle.manual.specs.Number.{bytes_in};
 ghost use Rattle.manual.specs.Place.{memory_fits, tags_fit, place_of, bytes_of, number_of, load_of};
 
-use manual::{Address, LINE, Loaded, Place, Size};
+use manual::{Address, LINE, Place, Size};
 
 pub const RAM_BASE: u64 = 0x10_0000;
 
@@ -15,84 +15,64 @@ pub const MEMORY_MOST: usize = 65536;
 pub fn memory_fits(bytes: usize) -> bool
     ensures { result ≡ memory_fits bytes }
 {
-    if bytes % LINE == 0 {
-        if bytes <= MEMORY_MOST { true } else { false }
-    } else {
-        false
-    }
+    bytes % LINE == 0 && bytes <= MEMORY_MOST
 }
 
 // Whether so many tags are one for each line of a RAM of so many bytes.
 pub fn tags_fit(ram: usize, tags: usize) -> bool
     ensures { result ≡ tags_fit ram tags }
 {
-    if tags == ram / LINE { true } else { false }
+    tags == ram / LINE
 }
 
 // Whether the `size` bytes at `at` lie within `len` bytes.
 pub fn within(at: u64, size: usize, len: usize) -> bool
     ensures { result ≡ leb (at + size) len }
 {
-    if size <= len {
-        if at as usize <= len - size {
-            true
-        } else {
-            false
-        }
-    } else {
-        false
-    }
+    size <= len && at as usize <= len - size
 }
 
 // Where the `size` bytes at an address lie, in a flash and a RAM of these lengths.
+#[tactic(auto, using(std::proofs::lemmas::Bool::Decides::nat_tests), unfolding(manual::specs::Place::place_of))]
 pub fn place_of(flash: usize, ram: usize, a: Address, size: usize) -> Place
     ensures { result ≡ place_of flash ram a size }
 {
     let at = a.0;
     if within(at, size, flash) {
-        return Place::Flash(at as usize);
+        Place::Flash(at as usize)
+    } else if RAM_BASE <= at && within(at - RAM_BASE, size, ram) {
+        Place::Ram((at - RAM_BASE) as usize)
+    } else {
+        Place::Nowhere
     }
-    if at < RAM_BASE {
-        return Place::Nowhere;
-    }
-    if within(at - RAM_BASE, size, ram) {
-        return Place::Ram((at - RAM_BASE) as usize);
-    }
-    Place::Nowhere
 }
 
 // The bytes of an access as a part of the flash or of the RAM, or no byte where it lies in neither.
+#[tactic(auto, using(manual::proofs::Places::flash_holds, manual::proofs::Places::ram_holds), unfolding(manual::specs::Place::bytes_of))]
 pub fn bytes_of<'a>(flash: &'a [u8], ram: &'a [u8], a: Address, size: usize) -> &'a [u8]
     ensures { result.now ≡ bytes_of flash.now ram.now a size }
 {
-    let at = a.0;
-    if within(at, size, flash.len()) {
-        let i = at as usize;
-        return &flash[i..i + size];
+    match place_of(flash.len(), ram.len(), a, size) {
+        Place::Flash(i) => &flash[i..i + size],
+        Place::Ram(i) => &ram[i..i + size],
+        Place::Nowhere => &[],
     }
-    if at < RAM_BASE {
-        return &ram[..0];
-    }
-    if within(at - RAM_BASE, size, ram.len()) {
-        let i = (at - RAM_BASE) as usize;
-        return &ram[i..i + size];
-    }
-    &ram[..0]
 }
 
 // The number in a part that was handed out; a part of another length was not.
-fn number_of(part: &[u8], size: usize) -> Loaded
+#[tactic(auto, unfolding(manual::specs::Place::number_of))]
+fn number_of(part: &[u8], size: usize) -> Option<u64>
     ensures { result ≡ number_of size part.now }
 {
     if part.len() == size {
-        Loaded::Value(num::load_be(part))
+        Some(num::load_be(part))
     } else {
-        Loaded::Nowhere
+        None
     }
 }
 
 // A data load from either memory.
-pub fn load<'a>(flash: &'a [u8], ram: &'a [u8], a: Address, size: Size) -> Loaded
+pub fn load<'a>(flash: &'a [u8], ram: &'a [u8], a: Address, size: Size) -> Option<u64>
     ensures { result ≡ load_of flash.now ram.now a (bytes_in size) }
 {
     let n = num::size_bytes(size);

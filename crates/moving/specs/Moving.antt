@@ -1,6 +1,5 @@
 -- Data loads and stores through a capability register: what their step writes is what the whole step's definition says.
-use Rattle.std.specs.Prelude.{ℕ, ◌≡◌, List}
-use Rattle.manual.specs.declared.Loaded.{Loaded}
+use Rattle.std.specs.Prelude.{ℕ, ◌≡◌, List, Option}
 use Rattle.manual.specs.declared.Cap.{Cap}
 use Rattle.manual.specs.declared.Instr.{Instr}
 use Rattle.manual.specs.declared.Named.{Named}
@@ -10,15 +9,11 @@ use Rattle.manual.specs.Plan.{plan_of}
 use Rattle.special.specs.Special.{Amounts}
 use Rattle.derivation.specs.declared.Capable.{Capable}
 
-abbrev pub puts_loaded : ℕ → Loaded → Capable
-puts_loaded rd (Loaded.Value v) = Capable.Sets rd v
-puts_loaded rd Loaded.Nowhere = Capable.Other
-
 -- whatever the other operands
-abbrev pub Loads : Instr → ℕ → Cap → Named → ℕ → List ℕ → List ℕ → Capable → Type 0
+abbrev pub Loads : Instr → ℕ → Cap → Named → ℕ → List ℕ → List ℕ → Option Capable → Type 0
 Loads i rd pcc cb rt flash ram r =
     (o : Operands) (tags : List ℕ) → o.n25 ≡ rd → o.pcc ≡ pcc → o.c20 ≡ cb → o.g15 ≡ rt → Amounts o (settle (plan_of o i)) flash ram tags ram tags r
 
-abbrev pub Stores : Instr → ℕ → Cap → Named → ℕ → List ℕ → List ℕ → List ℕ → List ℕ → List ℕ → Capable → Type 0
+abbrev pub Stores : Instr → ℕ → Cap → Named → ℕ → List ℕ → List ℕ → List ℕ → List ℕ → List ℕ → Option Capable → Type 0
 Stores i value pcc cb rt flash ram tags ram' tags' r =
     (o : Operands) → o.g25 ≡ value → o.pcc ≡ pcc → o.c20 ≡ cb → o.g15 ≡ rt → Amounts o (settle (plan_of o i)) flash ram tags ram' tags' r

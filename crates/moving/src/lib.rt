@@ -1,23 +1,55 @@
 // Data loads and stores through a capability register, carried out on the values that their words name.
 #![tactic(auto)]
 
-ghost use Rattle.std.specs.Prelude.{◌≡◌};
-ghost use Rattle.moving.specs.Moving.{puts_loaded, Loads, Stores};
+ghost use Rattle.moving.specs.Moving.{Loads, Stores};
 
 use derivation::Capable;
-use manual::{Cap, Instr, Loaded, Named, Size};
+use manual::{Cap, Instr, Named, Size};
 
-fn puts_loaded(rd: u8, loaded: Loaded) -> Capable
-    ensures { result ≡ puts_loaded rd loaded }
+// What a load of this size writes. It is put into its caller, where the size may be known to the compiler.
+#[inline(always)]
+fn load<'a>(
+    size: Size,
+    signed: bool,
+    x: u64,
+    rd: u8,
+    pcc: Cap,
+    cb: Named,
+    rt: u64,
+    flash: &'a [u8],
+    ram: &'a [u8],
+) -> Option<Capable>
+    ensures { Loads (Instr.Load size signed x) rd pcc cb rt flash.now ram.now result }
 {
-    match loaded {
-        Loaded::Value(v) => Capable::Sets(rd, v),
-        Loaded::Nowhere => Capable::Other,
-    }
+    let opens = cap::register_open(pcc.perms, cb.number);
+    let at = data::reached(cap::LOAD, size, x, opens, cb.cap, rt);
+    let value = data::loaded(at, size, signed, flash, ram)?;
+    Some(Capable::Sets(rd, value))
 }
 
-// What a load writes; Other for any other instruction. The common size stands by itself: its eight bytes are then one number to the
-// compiler.
+// And what a store leaves.
+#[inline(always)]
+fn store(
+    size: Size,
+    x: u64,
+    value: u64,
+    pcc: Cap,
+    cb: Named,
+    rt: u64,
+    flash: &[u8],
+    ram: &mut [u8],
+    tags: &mut [u8],
+) -> Option<Capable>
+    ensures { Stores (Instr.Store size x) value pcc cb rt flash.now ram.old tags.old ram.new tags.new result }
+{
+    let opens = cap::register_open(pcc.perms, cb.number);
+    let at = data::reached(cap::STORE, size, x, opens, cb.cap, rt);
+    data::stored(at, size, value, flash, ram, tags).ok()?;
+    Some(Capable::Sets(0, 0))
+}
+
+// What a load writes; None for any other instruction. The common size stands by itself for speed alone: its eight bytes are then one
+// number to the compiler.
 pub fn loads<'a>(
     i: Instr,
     rd: u8,
@@ -26,28 +58,27 @@ pub fn loads<'a>(
     rt: u64,
     flash: &'a [u8],
     ram: &'a [u8],
-) -> Capable
+) -> Option<Capable>
     ensures { Loads i rd pcc cb rt flash.now ram.now result }
 {
     match i {
-        Instr::Load(size, signed, x) => {
-            let opens = cap::register_open(pcc.perms, cb.number);
-            match size {
-                Size::Eight => {
-                    let at = data::reached(cap::LOAD, Size::Eight, x, opens, cb.cap, rt);
-                    puts_loaded(rd, data::loaded(at, Size::Eight, signed, flash, ram))
-                }
-                _ => {
-                    let at = data::reached(cap::LOAD, size, x, opens, cb.cap, rt);
-                    puts_loaded(rd, data::loaded(at, size, signed, flash, ram))
-                }
-            }
-        }
-        _ => Capable::Other,
+        Instr::Load(Size::Eight, signed, x) => load(
+            Size::Eight,
+            signed,
+            x,
+            rd,
+            pcc,
+            cb,
+            rt,
+            flash,
+            ram,
+        ),
+        Instr::Load(size, signed, x) => load(size, signed, x, rd, pcc, cb, rt, flash, ram),
+        _ => None,
     }
 }
 
-// What a store leaves; Other for any other instruction.
+// What a store leaves; None for any other instruction. The common size stands by itself as above.
 pub fn stores(
     i: Instr,
     value: u64,
@@ -57,23 +88,12 @@ pub fn stores(
     flash: &[u8],
     ram: &mut [u8],
     tags: &mut [u8],
-) -> Capable
+) -> Option<Capable>
     ensures { Stores i value pcc cb rt flash.now ram.old tags.old ram.new tags.new result }
 {
     match i {
-        Instr::Store(size, x) => {
-            let opens = cap::register_open(pcc.perms, cb.number);
-            match size {
-                Size::Eight => {
-                    let at = data::reached(cap::STORE, Size::Eight, x, opens, cb.cap, rt);
-                    derivation::puts_stored(data::stored(at, Size::Eight, value, flash, ram, tags))
-                }
-                _ => {
-                    let at = data::reached(cap::STORE, size, x, opens, cb.cap, rt);
-                    derivation::puts_stored(data::stored(at, size, value, flash, ram, tags))
-                }
-            }
-        }
-        _ => Capable::Other,
+        Instr::Store(Size::Eight, x) => store(Size::Eight, x, value, pcc, cb, rt, flash, ram, tags),
+        Instr::Store(size, x) => store(size, x, value, pcc, cb, rt, flash, ram, tags),
+        _ => None,
     }
 }

@@ -1,47 +1,130 @@
-// What a start book names: the record of a register or of a line, where the writer gives it one (01, "The start book").
+// What a start book has a record of: a register or a line, put at a place, and named there where it is not zero (01, "The start book").
 #![tactic(auto)]
 
-ghost use Rattle.std.specs.Prelude.{◌≡◌, length};
+ghost use Rattle.std.specs.Prelude.{◌≡◌, ℕ, ◌+◌, ◌-◌, ◌*◌, ◌^◌, ◌<◌, ◌≤◌, Bool, cond, not, ◌&&◌, eqb, List, [], length};
 ghost use Rattle.manual.specs.Store.{put};
-ghost use Rattle.pages.specs.Naming.{cap_piece, general_piece, line_named};
+ghost use Rattle.pages.specs.Compose.{record_of, cap_body, general_body, line_body, zero_cap, zero_bytes};
+ghost use Rattle.pages.specs.Runs.{pieces, Runs};
+ghost use Rattle.naming.specs.Steps.{Puts, PutsAtMost};
 
 use compose::LINE_HEAD;
 use inscribe::{CAP_RECORD, GENERAL_RECORD};
-use manual::Cap;
+use manual::{Cap, LINE};
+use std::ops::Range;
 
-// A capability register, where it has a record; the bytes of that record, 0 where there is none.
-pub fn name_cap(number: u8, c: Cap, out: &mut [u8], at: usize) -> usize
-    ensures value { result ≡ length (cap_piece number c) }
-    ensures out_after { out.new ≡ put out.old at (cap_piece number c) }
-{
-    if compose::is_zero(c) {
-        return 0;
+// The longest record of all.
+const MOST: usize = LINE_HEAD + LINE;
+
+// A register or a line.
+pub trait Recorded: Copy {
+    // Its record, and whether it is zero: then a book does not name it.
+    ghost spelled: { Self → List ℕ };
+
+    ghost nothing: { Self → Bool };
+
+    // Writes its record at a place, nothing where it does not fit; the bytes of that record.
+    fn put(self, out: &mut [u8], at: usize) -> usize
+        ensures value { result ≡ length (spelled self) }
+        ensures out_after { out.new ≡ put out.old at (spelled self) };
+
+    fn is_zero(self) -> bool
+        ensures { result ≡ nothing self };
+
+    // Puts it where a book names it; 0 where there is no record.
+    final fn name(self, out: &mut [u8], at: usize) -> usize
+        ensures value { result ≡ length (cond (nothing self) [] (spelled self)) }
+        ensures out_after { out.new ≡ put out.old at (cond (nothing self) [] (spelled self)) }
+    {
+        if self.is_zero() {
+            return 0;
+        }
+        self.put(out, at)
     }
-    inscribe::put_cap(out, at, number, c);
-    CAP_RECORD
 }
 
-// A general register, in the same way.
-#[tactic(auto, using(std::proofs::lemmas::Bool::Decides::nat_tests, pages::proofs::Fields::put_nothing), unfolding(pages::specs::Naming::general_piece))]
-pub fn name_general(number: u8, value: u64, out: &mut [u8], at: usize) -> usize
-    ensures value { result ≡ length (general_piece number value) }
-    ensures out_after { out.new ≡ put out.old at (general_piece number value) }
-{
-    if value == 0 {
-        return 0;
-    }
-    inscribe::put_general(out, at, number, value);
-    GENERAL_RECORD
+// A capability register, or PCC.
+#[derive(Clone, Copy)]
+pub struct Register {
+    pub number: u8,
+    pub cap: Cap,
 }
 
-// A line, in the same way, with as many bytes as it has.
-pub fn name_line(address: u64, tag: bool, bytes: &[u8], out: &mut [u8], at: usize) -> usize
-    ensures value { result ≡ length (line_named address tag bytes.now) }
-    ensures out_after { out.new ≡ put out.old at (line_named address tag bytes.now) }
-{
-    if checks::both(!tag, compose::all_zero(bytes)) {
-        return 0;
+impl Recorded for Register {
+    ghost spelled = { λ r. record_of (cap_body r.number r.cap) };
+
+    ghost nothing = { λ r. zero_cap r.cap };
+
+    fn put(self, out: &mut [u8], at: usize) -> usize {
+        inscribe::put_cap(out, at, self.number, self.cap);
+        CAP_RECORD
     }
-    compose::put_line(out, at, address, tag, bytes);
-    LINE_HEAD + bytes.len()
+
+    fn is_zero(self) -> bool {
+        compose::is_zero(self.cap)
+    }
+}
+
+// A general register.
+#[derive(Clone, Copy)]
+pub struct General {
+    pub number: u8,
+    pub value: u64,
+}
+
+impl Recorded for General {
+    ghost spelled = { λ r. record_of (general_body r.number r.value) };
+
+    ghost nothing = { λ r. eqb r.value 0 };
+
+    fn put(self, out: &mut [u8], at: usize) -> usize {
+        inscribe::put_general(out, at, self.number, self.value);
+        GENERAL_RECORD
+    }
+
+    fn is_zero(self) -> bool {
+        self.value == 0
+    }
+}
+
+// A line of the RAM, and its tag.
+#[derive(Clone, Copy)]
+pub struct Line<'a> {
+    pub address: u64,
+    pub tag: bool,
+    pub bytes: &'a [u8],
+}
+
+impl<'a> Recorded for Line<'a> {
+    ghost spelled = { λ l. record_of (line_body l.address l.tag l.bytes.now) };
+
+    ghost nothing = { λ l. not l.tag && zero_bytes l.bytes.now };
+
+    fn put(self, out: &mut [u8], at: usize) -> usize {
+        compose::put_line(out, at, self.address, self.tag, self.bytes);
+        LINE_HEAD + self.bytes.len()
+    }
+
+    fn is_zero(self) -> bool {
+        !self.tag && compose::all_zero(self.bytes)
+    }
+}
+
+// What numbers have to say, each put by `step` behind the one before; where the last one ends.
+pub fn put_each<F: Fn(usize, &mut [u8], usize) -> usize>(
+    numbers: Range<usize>,
+    step: F,
+    out: &mut [u8],
+    at: usize,
+) -> usize
+    requires callable { (i end : ℕ) (o : _) → numbers.start ≤ i → i < numbers.end → F.pre step i o end }
+    requires short { PutsAtMost numbers.start numbers.end (F.post step) MOST }
+    requires room { at + numbers.end * MOST < 2 ^ 64 }
+    ensures { (piece : ℕ → List ℕ) → Puts numbers.start numbers.end (F.post step) piece
+        → Runs out.old at (pieces (numbers.end - numbers.start) numbers.start piece) out.new result }
+{
+    let mut end = at;
+    for i in numbers.start..numbers.end {
+        end += step(i, out, end);
+    }
+    end
 }

@@ -10,87 +10,79 @@ use manual::{Address, Cap, Offset};
 pub fn no_cap() -> Cap
     ensures { result ≡ null }
 {
-    Cap {
-        tag: false,
-        sealed: false,
-        perms: 0,
-        otype: 0,
-        spare: 0,
-        base: Address(0),
-        length: 0,
-        offset: Offset(0),
-    }
+    Cap::default()
 }
 
 // CAndPerm: the permissions that the mask has too.
+#[tactic(auto, unfolding(manual::specs::Narrow::and_perms))]
 pub fn and_perms(c: Cap, mask: u64) -> Cap
     ensures { result ≡ and_perms c mask }
 {
-    let mut d = c;
-    d.perms = c.perms & (mask % 0x8000_0000) as u32;
-    d
+    Cap {
+        perms: c.perms & (mask % 0x8000_0000) as u32,
+        ..c
+    }
 }
 
 // CIncBase: the range without its first bytes.
+#[tactic(auto, unfolding(manual::specs::Number::plus_mod, manual::specs::Number::minus_mod, manual::specs::Narrow::inc_base))]
 pub fn inc_base(c: Cap, by: u64) -> Cap
     ensures { result ≡ inc_base c by }
 {
-    let base = num::address_at(c.base, Offset(by));
-    let mut d = c;
-    d.base = base;
-    d.length = std::num::wrapping_sub_u64(c.length, by);
-    d
+    Cap {
+        base: num::address_at(c.base, Offset(by)),
+        length: c.length.wrapping_sub(by),
+        ..c
+    }
 }
 
 // CSetLen.
 pub fn set_length(c: Cap, length: u64) -> Cap
     ensures { result ≡ set_length c length }
 {
-    let mut d = c;
-    d.length = length;
-    d
+    Cap { length, ..c }
 }
 
 // CSetOffset.
 pub fn set_offset(c: Cap, offset: Offset) -> Cap
     ensures { result ≡ set_offset c offset }
 {
-    let mut d = c;
-    d.offset = offset;
-    d
+    Cap { offset, ..c }
 }
 
 // CIncOffset.
+#[tactic(auto, unfolding(manual::specs::Number::plus_mod, manual::specs::Narrow::inc_offset))]
 pub fn inc_offset(c: Cap, by: u64) -> Cap
     ensures { result ≡ inc_offset c by }
 {
-    let offset = num::moved(c.offset, by);
-    let mut d = c;
-    d.offset = offset;
-    d
+    Cap {
+        offset: num::moved(c.offset, by),
+        ..c
+    }
 }
 
 // CClearTag.
 pub fn clear_tag(c: Cap) -> Cap
     ensures { result ≡ clear_tag c }
 {
-    let mut d = c;
-    d.tag = false;
-    d
+    Cap { tag: false, ..c }
 }
 
 // CSeal: the type is where `by` points.
+#[tactic(auto, unfolding(manual::specs::Number::plus_mod, manual::specs::Narrow::sealed_by))]
 pub fn seal(c: Cap, by: Cap) -> Cap
     ensures { result ≡ sealed_by c by }
 {
-    let mut d = c;
-    d.sealed = true;
     let a = num::address_at(by.base, by.offset);
-    d.otype = (a.0 % 0x100_0000) as u32;
-    d
+    Cap {
+        sealed: true,
+        otype: (a.0 % 0x100_0000) as u32,
+        ..c
+    }
 }
 
 // Global stays only where both have it.
+#[tactic(auto, unfolding(manual::specs::Narrow::and_global))]
 fn and_global(perms: u32, by: u32) -> u32
     ensures { result ≡ and_global perms by }
 {
@@ -102,17 +94,20 @@ fn and_global(perms: u32, by: u32) -> u32
 }
 
 // CUnseal: unsealed, of no type.
+#[tactic(auto, unfolding(manual::specs::Narrow::unsealed_by))]
 pub fn unseal(c: Cap, by: Cap) -> Cap
     ensures { result ≡ unsealed_by c by }
 {
-    let mut d = c;
-    d.sealed = false;
-    d.otype = 0;
-    d.perms = and_global(c.perms, by.perms);
-    d
+    Cap {
+        sealed: false,
+        otype: 0,
+        perms: and_global(c.perms, by.perms),
+        ..c
+    }
 }
 
 // CFromPtr: nothing for the null pointer, else the range from it on.
+#[tactic(auto, unfolding(manual::specs::Narrow::from_ptr))]
 pub fn from_ptr(c: Cap, pointer: u64) -> Cap
     ensures { result ≡ from_ptr c pointer }
 {

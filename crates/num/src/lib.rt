@@ -7,26 +7,30 @@ ghost use Rattle.manual.specs.Number.{be, to_be, bytes_in, sign_extend, extend_f
 use manual::{Address, LINE, Offset, Size};
 
 // The address an offset leads to from a base, mod 2^64.
+#[tactic(auto, unfolding(manual::specs::Number::plus_mod))]
 pub fn address_at(base: Address, offset: Offset) -> Address
     ensures { result ≡ address_at base offset }
 {
-    Address(std::num::wrapping_add_u64(base.0, offset.0))
+    Address(base.0.wrapping_add(offset.0))
 }
 
 // The offset that leads from a base to an address, mod 2^64.
+#[tactic(auto, unfolding(manual::specs::Number::minus_mod))]
 pub fn offset_to(base: Address, address: Address) -> Offset
     ensures { result ≡ offset_to base address }
 {
-    Offset(std::num::wrapping_sub_u64(address.0, base.0))
+    Offset(address.0.wrapping_sub(base.0))
 }
 
 // The offset so many bytes further, mod 2^64.
+#[tactic(auto, unfolding(manual::specs::Number::plus_mod))]
 pub fn moved(offset: Offset, by: u64) -> Offset
     ensures { result ≡ moved_by offset by }
 {
-    Offset(std::num::wrapping_add_u64(offset.0, by))
+    Offset(offset.0.wrapping_add(by))
 }
 
+// A function and no From: its name says that the number is of bytes.
 pub fn size_bytes(size: Size) -> usize
     ensures { result ≡ bytes_in size }
 {
@@ -44,49 +48,47 @@ pub fn load_be(part: &[u8]) -> u64
     ensures { result ≡ be part.now % 2 ^ 64 }
 {
     let mut v: u64 = 0;
-    let mut i = 0;
-    while i < part.len() {
-        let b = part[i] as u64;
-        v = v % 0x100_0000_0000_0000 * 256 + b;
-        i += 1;
+    for b in part {
+        v = v % 0x100_0000_0000_0000 * 256 + u64::from(*b);
     }
     v
 }
 
 // Writes the lowest bytes of `v` over the whole part, the most significant first.
+// The loop has an index, since no contract says what is written through `iter_mut().rev()`.
 pub fn store_be(part: &mut [u8], v: u64)
     ensures { part.new ≡ to_be (length part.old) v }
 {
     let mut x = v;
-    let mut i = part.len();
-    while 0 < i {
-        i = i - 1;
+    for i in (0..part.len()).rev() {
         part[i] = (x % 256) as u8;
         x = x / 256;
     }
 }
 
-// A number below `2 * half`, the weight of its top bit, with that bit carried on to 64 bits.
-fn extend_from(v: u64, half: u64) -> u64
-    requires { 0 < half }
-    ensures { result ≡ extend_from half v }
+// A number below `2 * HALF`, the weight of its top bit, with that bit carried on to 64 bits.
+#[tactic(auto, unfolding(manual::specs::Number::extend_from))]
+pub fn extend_from<const HALF: u64>(v: u64) -> u64
+    requires { 0 < HALF }
+    ensures { result ≡ extend_from HALF v }
 {
-    if v / half % 2 == 1 {
-        v % half + (u64::MAX - half + 1)
+    if v / HALF % 2 == 1 {
+        v % HALF + (u64::MAX - HALF + 1)
     } else {
-        v % half
+        v % HALF
     }
 }
 
 // The lowest bytes of `v` as a signed number of this size, in 64 bits.
+#[tactic(auto, unfolding(manual::specs::Number::sign_extend))]
 pub fn sign_extend(v: u64, size: Size) -> u64
     ensures { result ≡ sign_extend (bytes_in size) v }
 {
     match size {
-        Size::One => extend_from(v, 0x80),
-        Size::Two => extend_from(v, 0x8000),
-        Size::Four => extend_from(v, 0x8000_0000),
-        Size::Eight => extend_from(v, 0x8000_0000_0000_0000),
+        Size::One => extend_from::<0x80>(v),
+        Size::Two => extend_from::<0x8000>(v),
+        Size::Four => extend_from::<0x8000_0000>(v),
+        Size::Eight => extend_from::<0x8000_0000_0000_0000>(v),
         Size::Line => v,
     }
 }
@@ -96,10 +98,4 @@ pub fn extend(signed: bool, size: Size, v: u64) -> u64
     ensures { result ≡ extended signed size v }
 {
     if signed { sign_extend(v, size) } else { v }
-}
-
-pub fn wide(b: u8) -> usize
-    ensures { (result ≡ b) × (result ≤ 255) }
-{
-    b as usize
 }

@@ -1,4 +1,5 @@
 -- The laws of entering a book: a line copied, and the walk over one record. Assumes nothing.
+use Rattle.std.specs.Prelude.{Ok, Err, None}
 use Prim.Native.Nat.{ℕ, zero, suc, ◌+◌, ◌-◌, ◌≤◌}
 use mathlib.Core.Path.{◌≡◌, refl, sym, ◌∙◌, subst}
 use mathlib.Core.List.{List, ◌++◌}
@@ -11,8 +12,7 @@ use Rattle.manual.specs.declared.Machine.{Machine}
 use Rattle.manual.specs.declared.Refusal.{Refusal}
 use Rattle.pages.specs.declared.Entry.{Entry}
 use Rattle.pages.proofs.Entries.{Fits, entry_fits}
-use Rattle.pages.specs.declared.Step.{Step}
-use Rattle.pages.specs.Book.{kind_of, key_of, step_at}
+use Rattle.pages.specs.Book.{Step, more, kind_of, key_of, step_at}
 use Rattle.pages.proofs.Walks.{GoesOn, more_goes_on, more_fits, step_end}
 use Rattle.pages.specs.Entering.{Start, zero_machine, machine_with, ram_with, tags_with, entered, enter_all, enter_book, bare, RegisterIsThere, LineIsThere}
 
@@ -31,34 +31,28 @@ register_there : (e : Entry) (body : List ℕ) (ram : ℕ) → Fits body ram e �
 register_there (Entry.Capability number c) body ram f = f
 register_there (Entry.General number value) body ram f = f
 register_there (Entry.Line address tag) body ram f = tt
-register_there (Entry.Refused refusal) body ram f = tt
 
 line_there : (e : Entry) (book : List ℕ) (ram start bytes x : ℕ) → start + bytes ≡ x → x ≤ length book → Fits (take bytes (drop start book)) ram e → LineIsThere book x e ram
 line_there (Entry.Capability number c) book ram start bytes x z h f = tt
 line_there (Entry.General number value) book ram start bytes x z h f = tt
 line_there (Entry.Line address tag) book ram start bytes x z h f = (omega (arith, f.bytes, length-take bytes (drop start book)), h, f.above, f.room)
-line_there (Entry.Refused refusal) book ram start bytes x z h f = tt
 
 fits : (book : List ℕ) (ram at x : ℕ) (e : Entry) (g : GoesOn book ram at x e) → Fits (take g.bytes (drop g.start book)) ram e
 fits book ram at x e g =
-    let body = take g.bytes (drop g.start book) in
-    subst (λ (y : Entry). Fits body ram y) g.says (entry_fits body ram)
+    entry_fits (take g.bytes (drop g.start book)) ram e g.says
 
-pub registered : (book : List ℕ) (ram at kind key x : ℕ) (e : Entry) → Step.More x e ≡ step_at book ram at kind key → RegisterIsThere e
+pub registered : (book : List ℕ) (ram at kind key x : ℕ) (e : Entry) → more x e ≡ step_at book ram at kind key → RegisterIsThere e
 registered book ram at kind key x e q =
     let g = more_goes_on book ram at kind key x e q in
     register_there e (take g.bytes (drop g.start book)) ram (fits book ram at x e g)
 
-pub there : (book : List ℕ) (ram r at kind key x : ℕ) (e : Entry) → r ≡ ram → Step.More x e ≡ step_at book ram at kind key → LineIsThere book x e r
+pub there : (book : List ℕ) (ram r at kind key x : ℕ) (e : Entry) → r ≡ ram → more x e ≡ step_at book ram at kind key → LineIsThere book x e r
 there book ram r at kind key x e z q =
     let g = more_goes_on book ram at kind key x e q in
     subst (λ (n : ℕ). LineIsThere book x e n) (sym z)
     (line_there e book ram g.start g.bytes x g.ends (more_fits book ram at kind key x e q).1 (fits book ram at x e g))
 
 -- the same, once the entry is told
-pub is_register : (e e' : Entry) → e ≡ e' → RegisterIsThere e → RegisterIsThere e'
-is_register e e' q h = subst (λ (x : Entry). RegisterIsThere x) q h
-
 pub is_line_lem : (book : List ℕ) (end : ℕ) (e e' : Entry) (ram : ℕ) → e ≡ e' → LineIsThere book end e ram → LineIsThere book end e' ram
 is_line_lem book end e e' ram q h = subst (λ (x : Entry). LineIsThere book end x ram) q h
 
@@ -71,17 +65,17 @@ pub begins : (book ram tags : List ℕ) (m : Machine) → m ≡ zero_machine
 unfolding enter_book
 begins book ram tags m e = rw e
 
-pub ends : (n : ℕ) (book : List ℕ) (ram : ℕ) (s : Start) (step : Step) → Step.Done ≡ step → s ≡ enter_all n book ram step s
+pub ends : (n : ℕ) (book : List ℕ) (ram : ℕ) (s : Start) (step : Step) → Ok None ≡ step → s ≡ enter_all n book ram step s
 unfolding enter_all
 ends zero book ram s step e = refl
 ends (suc n) book ram s step e = rw (← e)
 
-pub breaks : (n : ℕ) (book : List ℕ) (ram : ℕ) (s : Start) (refusal : Refusal) (step : Step) → Step.Refused refusal ≡ step → s ≡ enter_all n book ram step s
+pub breaks : (n : ℕ) (book : List ℕ) (ram : ℕ) (s : Start) (refusal : Refusal) (step : Step) → Err refusal ≡ step → s ≡ enter_all n book ram step s
 unfolding enter_all
 breaks zero book ram s refusal step e = refl
 breaks (suc n) book ram s refusal step e = rw (← e)
 
-pub goes_on : (n : ℕ) (book : List ℕ) (ram at kind key x : ℕ) (e : Entry) (k q : ℕ) (s s' : Start) → length book ≤ n + at → Step.More x e ≡ step_at book ram at kind key
+pub goes_on : (n : ℕ) (book : List ℕ) (ram at kind key x : ℕ) (e : Entry) (k q : ℕ) (s s' : Start) → length book ≤ n + at → more x e ≡ step_at book ram at kind key
     → k ≡ kind_of e → q ≡ key_of e → s' ≡ entered book x e s
     → (m : ℕ) × (length book ≤ m + x) × (enter_all m book ram (step_at book ram x k q) s' ≡ enter_all n book ram (step_at book ram at kind key) s)
 unfolding enter_all

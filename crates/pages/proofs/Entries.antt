@@ -1,10 +1,11 @@
--- The laws of a line's address, one for each answer, and what an entry says. Assumes nothing.
-use Prim.Native.Nat.{ℕ, ◌+◌, ◌-◌, ◌%◌, ◌<◌, ◌≤◌}
-use mathlib.Core.Path.{◌≡◌, refl}
+-- What an entry says. Assumes nothing.
+use Rattle.std.specs.Prelude.{Result, Ok, Err}
+use Prim.Native.Nat.{ℕ, ◌+◌, ◌-◌, ◌%◌, ◌≤◌}
+use mathlib.Core.Path.{◌≡◌, refl, subst}
 use mathlib.Core.Bool.{Bool, true, false, cond, ◌&&◌}
 use mathlib.Core.List.{List}
 use native.Mathlib.Omega.{arith}
-use borrow.Author.Tests.{lt-ltb, le-ltb, le-leb, lt-leb, eq-eqb, ne_eqb, eqb-true, ltb-false, leb-true}
+use borrow.Author.Tests.{eqb-true, ltb-false, leb-true}
 use lib.Dec.{eqb, leb, ltb}
 use lib.ListN.{length, take, drop}
 use Rattle.manual.specs.Place.{RAM_BASE}
@@ -12,29 +13,10 @@ use Rattle.manual.specs.Line.{cap_in}
 use Rattle.manual.specs.Accept.{top_fits, loaded_fits}
 use Rattle.manual.specs.declared.Refusal.{Refusal}
 use Rattle.pages.specs.declared.Entry.{Entry}
-use Rattle.pages.specs.Record.{byte, number, refused}
+use Rattle.pages.specs.Record.{byte, number}
 use Rattle.pages.specs.Entry.{general_of, is_line, line_of, entry_of}
 use Rattle.manual.proofs.Tests.{both_true}
 use Rattle.pages.specs.Fields.{cap_of, capability_of}
-
--- an address of the RAM's lines
-module _ (a r : ℕ) where
-  pub below : a < RAM_BASE → false ≡ is_line a r
-  unfolding is_line
-  below h = rw (lt-ltb a RAM_BASE h)
-
-  module _ (h : RAM_BASE ≤ a) where
-    pub between : (a % 32 ≡ 0 → ⊥) → false ≡ is_line a r
-    unfolding is_line
-    between z = rw (le-ltb a RAM_BASE h, ne_eqb (a % 32) 0 z)
-
-    pub within : a % 32 ≡ 0 → 32 ≤ r → a - RAM_BASE ≤ r - 32 → true ≡ is_line a r
-    unfolding is_line
-    within z k l = rw (le-ltb a RAM_BASE h, eq-eqb (a % 32) 0 z, le-leb (a - RAM_BASE + 32) r (omega arith))
-
-    pub past : a % 32 ≡ 0 → r < a - RAM_BASE + 32 → false ≡ is_line a r
-    unfolding is_line
-    past z l = rw (le-ltb a RAM_BASE h, eq-eqb (a % 32) 0 z, lt-leb (a - RAM_BASE + 32) r l)
 
 -- what a body and an address that is a line's say
 pub record LineFits (body : List ℕ) (ram a : ℕ) : Type 0 where
@@ -60,11 +42,11 @@ when P true x y h k = h refl
 when P false x y h k = k
 
 -- what holds of each answer to a body, where its tests are passed, holds of the answer
-module _ (P : Entry → Type 0) (body : List ℕ) (ram : ℕ)
-    (cut : P (refused Refusal.Cut)) (kind : P (refused Refusal.Kind)) (field : P (refused Refusal.Field)) (top : P (refused Refusal.Top))
-    (capability : byte body 1 ≤ 32 → top_fits (cap_of body) ≡ true → P (Entry.Capability (byte body 1) (cap_of body)))
-    (general : 1 ≤ byte body 1 → byte body 1 ≤ 31 → P (Entry.General (byte body 1) (number body 2 8)))
-    (line : LineFits body ram (number body 1 8) → loaded_fits (cap_in (eqb (byte body 9) 1) (take 32 (drop 10 body))) ≡ true → P (Entry.Line (number body 1 8) (eqb (byte body 9) 1))) where
+module _ (P : Result Entry Refusal → Type 0) (body : List ℕ) (ram : ℕ)
+    (cut : P (Err Refusal.Cut)) (kind : P (Err Refusal.Kind)) (field : P (Err Refusal.Field)) (top : P (Err Refusal.Top))
+    (capability : byte body 1 ≤ 32 → top_fits (cap_of body) ≡ true → P (Ok (Entry.Capability (byte body 1) (cap_of body))))
+    (general : 1 ≤ byte body 1 → byte body 1 ≤ 31 → P (Ok (Entry.General (byte body 1) (number body 2 8))))
+    (line : LineFits body ram (number body 1 8) → loaded_fits (cap_in (eqb (byte body 9) 1) (take 32 (drop 10 body))) ≡ true → P (Ok (Entry.Line (number body 1 8) (eqb (byte body 9) 1)))) where
   by_capability : P (capability_of body)
   unfolding capability_of
   by_capability =
@@ -101,7 +83,11 @@ abbrev pub Fits : List ℕ → ℕ → Entry → Type 0
 Fits body ram (Entry.Capability i c) = i ≤ 32
 Fits body ram (Entry.General i v) = i ≤ 31
 Fits body ram (Entry.Line a tag) = LineFits body ram a
-Fits body ram (Entry.Refused refusal) = Unit {0}
 
-pub entry_fits : (body : List ℕ) (ram : ℕ) → Fits body ram (entry_of body ram)
-entry_fits body ram = by_kind (Fits body ram) body ram tt tt tt tt (λ h _. h) (λ _ h. h) (λ h _. h)
+-- what is said of an entry, where there is one
+abbrev pub Said : (Entry → Type 0) → Result Entry Refusal → Type 0
+Said P (Ok entry) = P entry
+Said P (Err refusal) = Unit {0}
+
+pub entry_fits : (body : List ℕ) (ram : ℕ) (e : Entry) → entry_of body ram ≡ Ok e → Fits body ram e
+entry_fits body ram e q = subst (Said (Fits body ram)) q (by_kind (Said (Fits body ram)) body ram tt tt tt tt (λ h _. h) (λ _ h. h) (λ h _. h))

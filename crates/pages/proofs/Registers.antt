@@ -1,6 +1,6 @@
 -- Records of one length each, one after the other, and all registers of a machine. Assumes nothing.
 use Prim.Native.Nat.{ℕ, zero, suc, ◌+◌, ◌*◌, ◌≤◌, ◌<◌}
-use mathlib.Core.Path.{◌≡◌, refl, sym, ◌∙◌, ap}
+use mathlib.Core.Path.{◌≡◌, refl, sym, ◌∙◌}
 use mathlib.Core.List.{List, [], ◌∷◌, ◌++◌}
 use native.Mathlib.Omega.{arith}
 use native.Mathlib.Nat.{suc-mul}
@@ -9,26 +9,14 @@ use Rattle.manual.specs.Number.{to_be}
 use Rattle.manual.specs.Store.{put}
 use Rattle.manual.proofs.Stores.{put-fits, put_out}
 use Rattle.manual.specs.declared.Cap.{Cap}
-use Rattle.pages.specs.Compose.{record_of, cap_body}
 use Rattle.pages.proofs.Fields.{cap_bytes_lem, general_bytes}
 use Rattle.manual.specs.declared.Machine.{Machine}
-use Rattle.pages.specs.Runs.{pieces, Runs}
-use Rattle.pages.proofs.RunLaws.{runs_put, runs_on}
+use Rattle.pages.specs.Runs.{pieces}
 use Rattle.pages.specs.Registers.{cap_records, general_records, registers_of, REGISTERS}
 
 version : to_be 1 1 ≡ 1 ∷ []
 unfolding to_be
 version = refl
-
--- the version, the capability registers, PCC, the general registers
-pub registers_run : (m : Machine) (l l₁ l₂ l₃ l₄ : List ℕ) → l₁ ≡ put l 0 (to_be 1 1) → Runs l₁ 1 (cap_records m.caps) l₂ 1217
-    → l₃ ≡ put l₂ 1217 (record_of (cap_body 32 m.pcc)) → Runs l₃ 1255 (general_records m.general) l₄ 1627 → Runs l 0 (registers_of m) l₄ REGISTERS
-unfolding registers_of
-registers_run m l l₁ l₂ l₃ l₄ p r₂ q r₄ =
-    let c = record_of (cap_body 32 m.pcc) in
-    runs_on l l₁ l₄ 0 1 1627 (1 ∷ []) _ (runs_put l l₁ 0 1 (1 ∷ []) (p ∙ ap (put l 0) version) refl)
-    (runs_on l₁ l₂ l₄ 1 1217 1627 (cap_records m.caps) _ r₂
-    (runs_on l₂ l₃ l₄ 1217 1255 1627 c (general_records m.general) (runs_put l₂ l₃ 1217 1255 c q (sym (ap (λ n. 1217 + n) (cap_bytes_lem 32 m.pcc)))) r₄))
 
 -- how long they are
 pieces_even : (n first size : ℕ) (piece : ℕ → List ℕ) → ((i : ℕ) → length (piece i) ≡ size) → length (pieces n first piece) ≡ n * size
@@ -52,9 +40,6 @@ registers_bytes m = rw (length-append, length-append, caps_bytes m.caps, cap_byt
 module _ (m : Machine) (l : List ℕ) where
   pub registers_out : length l < REGISTERS → l ≡ put l 0 (registers_of m)
   registers_out h = sym (put_out l 0 (registers_of m) (omega (arith, registers_bytes m)))
-
-  pub registers_put : (k : List ℕ) → REGISTERS ≤ length l → Runs l 0 (registers_of m) k REGISTERS → k ≡ put l 0 (registers_of m)
-  registers_put k h r = r.stands (omega (arith, r.ends))
 
   pub registers_front : REGISTERS ≤ length l → put l 0 (registers_of m) ≡ registers_of m ++ drop (length (registers_of m)) l
   registers_front h =

@@ -1,6 +1,6 @@
 -- The laws of runs of bytes. Assumes nothing.
 use Prim.Native.Nat.{ℕ, zero, suc, ◌+◌, ◌*◌, ◌≤◌}
-use mathlib.Core.Path.{◌≡◌, refl, sym, ◌∙◌, ap, subst}
+use mathlib.Core.Path.{◌≡◌, refl, sym, ◌∙◌, ap}
 use mathlib.Core.List.{List, [], ◌++◌, append_assoc, append-nil}
 use native.Mathlib.Omega.{arith}
 use native.Mathlib.Nat.{suc-mul}
@@ -53,9 +53,6 @@ module _ (l : List ℕ) (at first : ℕ) (piece : ℕ → List ℕ) where
       → Runs l at (pieces (n + 1) first piece) m last
   run_next k m end last n j e h r p =
       rw (add-one, pieces_suc n first piece, ← e) (runs_on l k m at end last (pieces n first piece) (piece j) r (runs_put k m end last (piece j) p h))
-
-  pub run_all : (k : List ℕ) (end n i : ℕ) → n ≤ i → i ≤ n → Runs l at (pieces i first piece) k end → Runs l at (pieces n first piece) k end
-  run_all k end n i h h' r = subst (λ (x : ℕ). Runs l at (pieces x first piece) k end) (omega arith) r
 
   pub run_ends : (k : List ℕ) (end n most : ℕ) → ((i : ℕ) → length (piece i) ≤ most) → Runs l at (pieces n first piece) k end → end ≤ at + n * most
   run_ends k end n most h r = omega (arith, r.ends, pieces_most n first most piece h)

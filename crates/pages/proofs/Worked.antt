@@ -1,15 +1,13 @@
 -- Books on worked cases, where two refusals could be told in another order, or a refusal leave something behind. Assumes nothing.
+use Rattle.std.specs.Prelude.{Err, None}
 use Prim.Native.Nat.{ℕ}
 use mathlib.Core.Path.{◌≡◌, refl}
 use mathlib.Core.List.{List, [], ◌∷◌, ◌++◌}
 use lib.ListN.{get_or, replicate}
 use Rattle.manual.specs.Number.{be, to_be}
 use Rattle.manual.specs.Narrow.{null}
-use Rattle.manual.specs.declared.Pending.{Pending}
 use Rattle.manual.specs.declared.Refusal.{Refusal}
 use Rattle.manual.specs.declared.Machine.{Machine}
-use Rattle.pages.specs.declared.Entry.{Entry}
-use Rattle.pages.specs.declared.Step.{Step}
 use Rattle.pages.specs.Record.{head_at, body_at}
 use Rattle.pages.specs.Fields.{cap_of, capability_of}
 use Rattle.pages.specs.Entry.{general_of, entry_of}
@@ -29,12 +27,12 @@ abbrev two_faults : List ℕ
 two_faults = 1 ∷ 33 ∷ 1 ∷ replicate 9 0 ++ replicate 8 255 ++ replicate 8 255 ++ replicate 8 0
 
 -- 34 before 22
-field_before_top : capability_of two_faults ≡ Entry.Refused Refusal.Field
+field_before_top : capability_of two_faults ≡ Err Refusal.Field
 unfolding capability_of cap_of be
 field_before_top = refl
 
 -- 32 before 33: kind 4 after a line
-kind_before_order : step_at (0 ∷ 1 ∷ 4 ∷ []) 0 0 3 0 ≡ Step.Refused Refusal.Kind
+kind_before_order : step_at (0 ∷ 1 ∷ 4 ∷ []) 0 0 3 0 ≡ Err Refusal.Kind
 unfolding step_at head_at body_at after_head after_entry entry_of in_order be
 kind_before_order = refl
 
@@ -57,7 +55,7 @@ unfolding after_start book_of cap_pieces general_pieces line_pieces pieces cap_p
 no_room_for_one_byte = refl
 
 abbrev caused : Machine
-caused = record { general = replicate 32 0; caps = replicate 32 null; pcc = null; pending = Pending.Quiet; cause = 1 }
+caused = record { general = replicate 32 0; caps = replicate 32 null; pcc = null; pending = None; cause = 1 }
 
 -- 35 before 36
 waiting_before_room : after_start caused [] [] [] ≡ refused Refusal.Waiting []

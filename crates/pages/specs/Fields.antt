@@ -1,10 +1,10 @@
 -- A capability record of a start book (01, "Start book").
-use Rattle.std.specs.Prelude.{ℕ, ◌%◌, ◌^◌, cond, ◌&&◌, List, length, eqb, leb, ltb}
+use Rattle.std.specs.Prelude.{ℕ, ◌%◌, ◌^◌, cond, ◌&&◌, List, length, eqb, leb, ltb, Result, Ok, Err}
 use Rattle.manual.specs.declared.Cap.{Cap}
 use Rattle.manual.specs.Accept.{top_fits}
 use Rattle.manual.specs.declared.Refusal.{Refusal}
 use Rattle.pages.specs.declared.Entry.{Entry}
-use Rattle.pages.specs.Record.{byte, number, refused}
+use Rattle.pages.specs.Record.{byte, number}
 
 -- kind 1, 36 bytes: kind, number (0..31, 32 for PCC), tag, sealed, spare, otype (3), permissions (4, top bit 0), base, length, offset
 unfoldable pub cap_of : List ℕ → Cap
@@ -20,10 +20,10 @@ cap_of body =
       sealed = eqb (byte body 3) 1;
     }
 
-unfoldable pub capability_of : List ℕ → Entry
+unfoldable pub capability_of : List ℕ → Result Entry Refusal
 capability_of body =
     cond (eqb (length body) 36)
     (cond (leb (byte body 1) 32 && (leb (byte body 2) 1 && (leb (byte body 3) 1 && ltb (byte body 8) 128)))
-    (cond (top_fits (cap_of body)) (Entry.Capability (byte body 1) (cap_of body)) (refused Refusal.Top))
-    (refused Refusal.Field))
-    (refused Refusal.Cut)
+    (cond (top_fits (cap_of body)) (Ok (Entry.Capability (byte body 1) (cap_of body))) (Err Refusal.Top))
+    (Err Refusal.Field))
+    (Err Refusal.Cut)

@@ -1,14 +1,13 @@
 // The values that the definitions beside this file speak of: a start book, record by record, and what it gives.
 #![tactic(auto)]
 
-use manual::{Cap, Machine, Refusal, Verdict};
+use manual::Cap;
 
-// What stands at a place of a book: nothing more, a record that is cut or empty, or a body.
+// Where the body of a record lies: its first byte, and how many bytes it has.
 #[derive(Clone, Copy)]
-pub enum Head {
-    End,
-    Cut,
-    Body(usize, usize),
+pub struct Body {
+    pub start: usize,
+    pub bytes: usize,
 }
 
 // What a body says: a capability register or PCC (32), a general register, a line with its tag.
@@ -17,23 +16,14 @@ pub enum Entry {
     Capability(u8, Cap),
     General(u8, u64),
     Line(u64, bool),
-    Refused(Refusal),
 }
 
 // The number of PCC in a record.
 pub const PCC: u8 = 32;
 
-// One record of the walk: the end, a refusal, or what the record says and where it ends.
+// One record of the walk: where it ends, and what it says.
 #[derive(Clone, Copy)]
-pub enum Step {
-    Done,
-    Refused(Refusal),
-    More(usize, Entry),
-}
-
-// What a book gives: the verdict on it, and the machine that it names, all zero where it is refused.
-#[derive(Clone, Copy)]
-pub struct Started {
-    pub verdict: Verdict,
-    pub machine: Machine,
+pub struct Record {
+    pub end: usize,
+    pub entry: Entry,
 }

@@ -1,34 +1,16 @@
 // The memories of a case, piece by piece, and the next case read.
 #![tactic(auto)]
 
-ghost use Rattle.std.specs.Prelude.{◌≡◌, min, length, replicate, take};
+ghost use Rattle.std.specs.Prelude.{◌≡◌, min, length, take, OnOk};
 ghost use Rattle.std.specs.Counts.{IsPrefixLen};
-ghost use Rattle.manual.specs.Store.{put};
+ghost use Rattle.std.specs.Fn.{CalledAt};
 ghost use Rattle.tables.specs.Tables.{number4, piece_end, with_piece, memory_end, memory_in};
-ghost use Rattle.pieces.specs.Pieces.{ReadsBody};
+ghost use Rattle.pieces.specs.Pieces.{ReadsBody, RunsCases};
 
+use std::io;
 use std::io::Read;
 
-// Every byte this one.
-pub fn fill(memory: &mut [u8], b: u8)
-    ensures { memory.new ≡ replicate (length memory.old) b }
-{
-    for i in 0..memory.len() {
-        memory[i] = b;
-    }
-}
-
-// Writes bytes at a place; nothing where they do not fit.
-fn put_at(memory: &mut [u8], place: usize, piece: &[u8])
-    ensures { memory.new ≡ put memory.old place piece.now }
-{
-    if piece.len() <= memory.len() {
-        if place <= memory.len() - piece.len() {
-            let end = place + piece.len();
-            memory[place..end].copy_from_slice(piece);
-        }
-    }
-}
+const MOST_CASES: usize = 1_000_000;
 
 // Writes the piece that stands at `at`, and answers where the next stands.
 fn put_piece(memory: &mut [u8], body: &[u8], at: usize) -> usize
@@ -37,7 +19,7 @@ fn put_piece(memory: &mut [u8], body: &[u8], at: usize) -> usize
 {
     let size = tables::number(body, tables::after(at, 4), 2) as usize;
     let from = tables::after(at, 6);
-    put_at(
+    store::put_bytes(
         memory,
         tables::number_4(body, at) as usize,
         tables::part(body, from, size),
@@ -45,12 +27,12 @@ fn put_piece(memory: &mut [u8], body: &[u8], at: usize) -> usize
     tables::after(from, size)
 }
 
-// Writes the memory that stands at `start`, and answers where the next stands.
+// Writes the memory that stands at `start`, and answers where the next stands. No chunks: a piece says its own size.
 pub fn put_memory(memory: &mut [u8], body: &[u8], start: usize) -> usize
     ensures value { result ≡ memory_end body.now start }
     ensures memory_after { memory.new ≡ memory_in body.now start (length memory.old) }
 {
-    fill(memory, tables::byte(body, tables::after(start, 4)));
+    memory.fill(tables::byte(body, tables::after(start, 4)));
     let mut at = tables::after(start, 9);
     for _ in 0..tables::number_4(body, tables::after(start, 5)) {
         at = put_piece(memory, body, at);
@@ -63,12 +45,18 @@ pub fn size_in<'a>(s: &'a [u8], at: usize, space: &'a [u8]) -> usize
     ensures prefix_len { IsPrefixLen result space.now }
     ensures value { result ≡ min (number4 s.now at) (length space.now) }
 {
-    let size = tables::number_4(s, at) as usize;
-    if size < space.len() {
-        size
-    } else {
-        space.len()
-    }
+    space.len().min(tables::number_4(s, at) as usize)
+}
+
+// The memory that stands at `start`, at the front of this space, and where the next stands.
+pub fn memory_in<'a>(space: &'a mut [u8], body: &[u8], start: usize) -> (&'a mut [u8], usize)
+    ensures value { result.0.now ≡ memory_in body.now start (min (number4 body.now start) (length space.old)) }
+    ensures end { result.1 ≡ memory_end body.now start }
+{
+    let size = size_in(body, start, space);
+    let memory = &mut space[..size];
+    let end = put_memory(memory, body, start);
+    (memory, end)
 }
 
 // Reads a case into this space: how many bytes its body has, 0 where there is none.
@@ -82,4 +70,24 @@ pub fn next_body<R: Read>(input: &mut R, space: &mut [u8]) -> usize
     }
     let n = size_in(&head, 0, space);
     tables::read_full(input, &mut space[..n])
+}
+
+// Runs the body of each case of the input, read into this space, until there is none or a run fails.
+pub fn each_case<R: Read, F: FnMut(&[u8]) -> io::Result<()>>(
+    input: &mut R,
+    space: &mut [u8],
+    mut run: F,
+) -> io::Result<()>
+    requires { F.IsAlwaysCallable run }
+    ensures { OnOk result (RunsCases MOST_CASES (λ f body g. CalledAt F.FnMut f body (Ok tt) g)
+        (R.remaining input.old) run (R.remaining input.new)) }
+{
+    for _ in 0..MOST_CASES {
+        let n = next_body(input, space);
+        if n == 0 {
+            return Ok(());
+        }
+        run(&space[..n])?;
+    }
+    Ok(())
 }

@@ -1,26 +1,26 @@
 // What a word's instruction does on the registers that the word names: every check, then one effect.
 #![tactic(auto)]
 
-ghost use Rattle.std.specs.Prelude.{◌≡◌};
+ghost use Rattle.std.specs.Prelude.{◌≡◌, Ok};
 ghost use Rattle.manual.specs.Checks.{settle};
 ghost use Rattle.manual.specs.Plan.{plan_of};
 
-use manual::{Effect, Fault, Instr, Operands, Planned};
+use manual::{Effect, Fault, Instr, Operands};
 
-fn sets(rd: u8, value: u64) -> Planned
-    ensures { result ≡ Planned.Does (Effect.General rd value) }
+fn sets(rd: u8, value: u64) -> Result<Effect, Fault>
+    ensures { result ≡ Ok (Effect.General rd value) }
 {
-    Planned::Does(Effect::General(rd, value))
+    Ok(Effect::General(rd, value))
 }
 
 #[tactic(auto, unfolding(manual::specs::Plan::plan_of, manual::specs::Checks::settle))]
-pub fn plan(o: Operands, i: Instr) -> Planned
+pub fn plan(o: Operands, i: Instr) -> Result<Effect, Fault>
     ensures { result ≡ settle (plan_of o i) }
 {
     match i {
-        Instr::Reserved => Planned::Fails(Fault::Reserved),
-        Instr::Nop => Planned::Does(Effect::Nothing),
-        Instr::Break => Planned::Fails(Fault::Break),
+        Instr::Reserved => Err(Fault::Reserved),
+        Instr::Nop => Ok(Effect::Nothing),
+        Instr::Break => Err(Fault::Break),
         Instr::Compute(op) => sets(o.n15, compute::compute(op, o.g25, o.g20)),
         Instr::ComputeImmediate(op, x) => sets(o.n20, compute::compute(op, o.g25, x)),
         Instr::Lui(x) => sets(o.n20, x),

@@ -2,14 +2,12 @@
 // place, steps (01, "Bench examples").
 #![tactic(auto)]
 
-ghost use Rattle.std.specs.Prelude.{◌≡◌, length, replicate, OnOk};
-ghost use Rattle.std.specs.Counts.{IsPrefixLen};
+ghost use Rattle.std.specs.Prelude.{replicate, OnOk};
 ghost use Rattle.std.specs.Io.KnownBytes.{Appends};
 ghost use Rattle.pages.specs.Bench.{bench_of};
-ghost use Rattle.tables.specs.Lines.{printed, answer_line};
+ghost use Rattle.tables.specs.Lines.{answer_line};
 
 use asked::{BENCH_RAM, BENCH_TAGS, FILE_MOST};
-use manual::Answer;
 use std::io::Write;
 use std::rt::Files;
 use std::{fs, io};
@@ -17,37 +15,13 @@ use std::{fs, io};
 // A byte more than the largest file, so that a longer one is seen as such.
 const MOST_READ: usize = FILE_MOST + 1;
 
-fn space() -> [u8; MOST_READ]
-    ensures { 65537 ≡ length result }
-{
-    [0; MOST_READ]
-}
-
-// The file's bytes at the front of the space, and how many; none of one that cannot be opened or read.
-fn read_file<R: Files>(rt: &R, path: &str, space: &mut [u8]) -> usize
-    ensures { IsPrefixLen result space.new }
-{
-    match fs::open(rt, path) {
+// The file's bytes, read into the space; none of one that cannot be opened or read.
+fn read_file<'a, R: Files>(rt: &R, path: &str, space: &'a mut [u8]) -> &'a [u8] {
+    let length = match fs::open(rt, path) {
         Ok(mut file) => tables::read_full(&mut file, space),
         Err(_) => 0,
-    }
-}
-
-fn print<W: Write>(to: &mut W, n: u64, end: u8) -> io::Result<()>
-    ensures { OnOk result (Appends (W.contents to.old) (W.contents to.new) (printed n end)) }
-{
-    write!(to, "{n}")?;
-    to.write_all(&[end])
-}
-
-fn print_line<W: Write>(to: &mut W, a: Answer) -> io::Result<()>
-    ensures { OnOk result (Appends (W.contents to.old) (W.contents to.new) (answer_line a)) }
-{
-    print(to, a.stop as u64, b' ')?;
-    print(to, a.cause as u64, b' ')?;
-    print(to, a.register as u64, b' ')?;
-    print(to, a.place, b' ')?;
-    print(to, a.steps as u64, b'\n')
+    };
+    &space[..length]
 }
 
 // The bench's line of a book and a flash.
@@ -57,17 +31,13 @@ fn print_bench<W: Write>(to: &mut W, book: &[u8], flash: &[u8]) -> io::Result<()
 {
     let mut ram = [0; BENCH_RAM];
     let mut tags = [0; BENCH_TAGS];
-    print_line(to, answer::bench(book, flash, &mut ram, &mut tags))
+    tables::print_answer(to, answer::bench(book, flash, &mut ram, &mut tags))
 }
 
 fn main(rt: HostRuntime) -> io::Result<()> {
-    let mut book = space();
-    let book_length = read_file(&rt, "start.book", &mut book);
-    let mut flash = space();
-    let flash_length = read_file(&rt, "flash.bin", &mut flash);
-    print_bench(
-        &mut io::writer(&rt),
-        &book[..book_length],
-        &flash[..flash_length],
-    )
+    let mut book = [0; MOST_READ];
+    let book = read_file(&rt, "start.book", &mut book);
+    let mut flash = [0; MOST_READ];
+    let flash = read_file(&rt, "flash.bin", &mut flash);
+    print_bench(&mut io::writer(&rt), book, flash)
 }

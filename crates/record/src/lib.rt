@@ -4,25 +4,24 @@
 ghost use Rattle.std.specs.Prelude.{◌≡◌};
 ghost use Rattle.pages.specs.Record.{head_at};
 
-use pages::Head;
+use manual::Refusal;
+use pages::Body;
 
-// The record that begins at a place: a length of two bytes and a body.
-pub fn head_at(book: &[u8], at: usize) -> Head
+// The record that begins at a place, none at the book's end: a length of two bytes and a body.
+#[tactic(auto, using(std::proofs::lemmas::Bool::Decides::nat_tests), unfolding(pages::specs::Record::body_at, pages::specs::Record::head_at))]
+pub fn head_at(book: &[u8], at: usize) -> Result<Option<Body>, Refusal>
     ensures { result ≡ head_at book.now at }
 {
     if book.len() <= at {
-        return Head::End;
+        return Ok(None);
     }
     if book.len() - at < 2 {
-        return Head::Cut;
+        return Err(Refusal::Cut);
     }
     let start = at + 2;
     let bytes = num::load_be(&book[at..start]) as usize;
-    if bytes == 0 {
-        return Head::Cut;
+    if bytes == 0 || book.len() - start < bytes {
+        return Err(Refusal::Cut);
     }
-    if book.len() - start < bytes {
-        return Head::Cut;
-    }
-    Head::Body(start, bytes)
+    Ok(Some(Body { start, bytes }))
 }

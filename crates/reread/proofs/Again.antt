@@ -1,4 +1,5 @@
 -- The records of a written book give back the machine, the RAM and the tags that were written. Assumes nothing.
+use Rattle.std.specs.Prelude.{Option, Ok, Some, None}
 use Prim.Native.Nat.{ℕ, zero, suc, ◌+◌, ◌-◌, ◌*◌, ◌/◌, ◌≤◌, ◌<◌}
 use mathlib.Core.Path.{◌≡◌, refl, sym, ◌∙◌, ap, subst}
 use mathlib.Core.Bool.{Bool, true, false, not, ◌&&◌}
@@ -11,15 +12,12 @@ use Rattle.manual.specs.Place.{RAM_BASE, memory_fits, tags_fit}
 use Rattle.manual.specs.Store.{bit, put, tag_of, with_tag}
 use Rattle.manual.specs.declared.Cap.{Cap}
 use Rattle.manual.specs.Narrow.{null}
-use Rattle.manual.specs.declared.Pending.{Pending}
 use Rattle.manual.specs.Registers.{is_pending}
-use Rattle.manual.specs.declared.Verdict.{Verdict}
 use Rattle.manual.specs.Accept.{verdict_of}
 use Rattle.manual.specs.declared.Machine.{Machine}
 use Rattle.pages.specs.declared.Entry.{Entry}
 use Rattle.pages.specs.Record.{head_at}
-use Rattle.pages.specs.declared.Step.{Step}
-use Rattle.pages.specs.Book.{kind_of, key_of, after_head, step_at}
+use Rattle.pages.specs.Book.{Step, more, kind_of, key_of, after_head, step_at}
 use Rattle.pages.proofs.Walks.{more_fits}
 use Rattle.pages.specs.Compose.{cap_body, general_body, line_body, zero_bytes}
 use Rattle.pages.proofs.Fields.{line_bytes_lem}
@@ -36,14 +34,14 @@ use Rattle.reread.proofs.Written.{Omits, book_omitting, zeros, written_omits, th
 
 -- nothing pending, and no cause
 abbrev with : List Cap → Cap → List ℕ → List ℕ → List ℕ → Start
-with caps pcc general ram tags = record { machine = record { general = general; caps = caps; pcc = pcc; pending = Pending.Quiet; cause = 0 }; ram = ram; tags = tags }
+with caps pcc general ram tags = record { machine = record { general = general; caps = caps; pcc = pcc; pending = None; cause = 0 }; ram = ram; tags = tags }
 
-done : (n : ℕ) (book : List ℕ) (ram : ℕ) (s : Start) → enter_all n book ram Step.Done s ≡ s
+done : (n : ℕ) (book : List ℕ) (ram : ℕ) (s : Start) → enter_all n book ram (Ok None) s ≡ s
 unfolding enter_all
 done zero book ram s = refl
 done (suc n) book ram s = refl
 
-at_end : (book : List ℕ) (ram at kind key : ℕ) → length book ≤ at → step_at book ram at kind key ≡ Step.Done
+at_end : (book : List ℕ) (ram at kind key : ℕ) → length book ≤ at → step_at book ram at kind key ≡ Ok None
 unfolding step_at head_at after_head
 at_end book ram at kind key h = rw (le-leb (length book) at h)
 
@@ -61,7 +59,7 @@ no_tag : (tags : List ℕ) (i : ℕ) → get_or tags i 0 ≤ 1 → tag_of tags i
 no_tag tags i h e = sym (ap bit e) ∙ tag_byte tags i h
 
 module _ (m : Machine) (o : Omits m) (ram tags : List ℕ) (ty : Typed m) (lc : length m.caps ≡ 32) (lg : length m.general ≡ 32)
-    (v : Verdict.Accepted ≡ verdict_of m.caps m.pcc m.pending (get_or m.general 0 0) 0 ram tags) where
+    (v : (Ok tt) ≡ verdict_of m.caps m.pcc m.pending (get_or m.general 0 0) 0 ram tags) where
   abbrev book : List ℕ
   book = book_omitting m o ram tags
 
@@ -81,7 +79,7 @@ module _ (m : Machine) (o : Omits m) (ram tags : List ℕ) (ty : Typed m) (lc : 
   abbrev At : Start → ℕ → ℕ → ℕ → Type 0
   At s at kind key = (n : ℕ) → length book ≤ n + at → enter_all n book (length ram) (step_at book (length ram) at kind key) s ≡ with m.caps m.pcc m.general ram tags
 
-  over : (s : Start) (at kind key x : ℕ) (e : Entry) → step_at book (length ram) at kind key ≡ Step.More x e → At (entered book x e s) x (kind_of e) (key_of e) → At s at kind key
+  over : (s : Start) (at kind key x : ℕ) (e : Entry) → step_at book (length ram) at kind key ≡ more x e → At (entered book x e s) x (kind_of e) (key_of e) → At s at kind key
   unfolding enter_all
   over s at kind key x e p g zero k = let f = more_fits book (length ram) at kind key x e (sym p) in absurd (omega (arith, f.0, f.1))
   over s at kind key x e p g (suc n) k = let f = more_fits book (length ram) at kind key x e (sym p) in rw p (g n (omega (arith, f.0)))
@@ -196,9 +194,9 @@ module _ (m : Machine) (o : Omits m) (ram tags : List ℕ) (ty : Typed m) (lc : 
   book_entered = book_walk m o ram tags ty v book Caps Generals Lines cap_passes pcc-passes general-passes turns line_passes ended refl
 
 -- nothing is pending
-quiet : (p : Pending) → not (is_pending p) ≡ true → Pending.Quiet ≡ p
-quiet Pending.Quiet e = refl
-quiet (Pending.Jump c) e = let z : ◌≡◌ {A = ℕ} 0 1 = cc in absurd (omega arith)
+quiet : (p : Option Cap) → not (is_pending p) ≡ true → None ≡ p
+quiet None e = refl
+quiet (Some c) e = let z : ◌≡◌ {A = ℕ} 0 1 = cc in absurd (omega arith)
 
 resting : (m : Machine) (ram tags : List ℕ) → rests m ≡ true → with m.caps m.pcc m.general ram tags ≡ record { machine = m; ram = ram; tags = tags }
 resting m ram tags e =
@@ -214,7 +212,7 @@ sizes : (a b t : Bool) → ((a && b) && t) ≡ true → (flash : Bool) → flash
 sizes a b t e flash f = let p = both_true (a && b) t e in let q = both_true a b p.0 in rw (f, q.1, p.1)
 
 -- an accepted book is entered over zeros
-pub read_accepted : (book : List ℕ) (flash : ℕ) (ram tags : List ℕ) → judged book flash (length ram) (length tags) ≡ Verdict.Accepted
+pub read_accepted : (book : List ℕ) (flash : ℕ) (ram tags : List ℕ) → judged book flash (length ram) (length tags) ≡ (Ok tt)
     → read_book book flash ram tags ≡ enter_all (length book) book (length ram) (step_at book (length ram) 1 0 0) (bare (replicate (length ram) 0) (replicate (length tags) 0))
 unfolding read_book enter_book
 read_accepted book flash ram tags e =
@@ -222,18 +220,18 @@ read_accepted book flash ram tags e =
 
 -- a book that names all registers but some that are zero gives back the machine, the RAM and the tags that it is of
 pub omitting_read : (m : Machine) (o : Omits m) (ram tags : List ℕ) (flash : ℕ) (ram' tags' : List ℕ) → Typed m → length m.caps ≡ 32 → length m.general ≡ 32
-    → Verdict.Accepted ≡ verdict_of m.caps m.pcc m.pending (get_or m.general 0 0) 0 ram tags
+    → (Ok tt) ≡ verdict_of m.caps m.pcc m.pending (get_or m.general 0 0) 0 ram tags
     → rests m ≡ true
     → memory_fits flash ≡ true
     → length ram' ≡ length ram
     → length tags' ≡ length tags
-    → (judged (book_omitting m o ram tags) flash (length ram') (length tags') ≡ Verdict.Accepted)
+    → (judged (book_omitting m o ram tags) flash (length ram') (length tags') ≡ (Ok tt))
     × (read_book (book_omitting m o ram tags) flash ram' tags' ≡ record { machine = m; ram = ram; tags = tags })
 unfolding judged
 omitting_read m o ram tags flash ram' tags' ty lc lg v r ff er et =
     let book = book_omitting m o ram tags in
     let fits = sizes (memory_fits 0) (memory_fits (length ram)) (tags_fit (length ram) (length tags)) (sizes_fit_lem m.caps m.pcc m.pending (get_or m.general 0 0) 0 ram tags v) (memory_fits flash) ff in
-    let accepted : judged book flash (length ram') (length tags') ≡ Verdict.Accepted = rw (er, et, fits) (book_accepted m o ram tags ty v) in
+    let accepted : judged book flash (length ram') (length tags') ≡ (Ok tt) = rw (er, et, fits) (book_accepted m o ram tags ty v) in
     let read : read_book book flash ram' tags' ≡ record { machine = m; ram = ram; tags = tags } =
     read_accepted book flash ram' tags' accepted ∙ rw (er, et) (book_entered m o ram tags ty lc lg v (length book) (omega arith) ∙ resting m ram tags r) in
     (accepted, read)

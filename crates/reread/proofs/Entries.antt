@@ -1,6 +1,7 @@
 -- The entry of each kind of body. Assumes nothing.
+use Rattle.std.specs.Prelude.{Ok}
 use Prim.Native.Nat.{ℕ, ◌/◌, ◌%◌, ◌^◌, ◌≤◌, ◌<◌}
-use mathlib.Core.Path.{◌≡◌, refl}
+use mathlib.Core.Path.{◌≡◌}
 use mathlib.Core.Bool.{Bool, true, false}
 use mathlib.Core.List.{List, [], ◌∷◌}
 use native.Mathlib.Omega.{arith}
@@ -16,19 +17,18 @@ use Rattle.pages.specs.declared.Entry.{Entry}
 use Rattle.pages.specs.Record.{byte, number}
 use Rattle.pages.specs.Entry.{is_line, general_of, line_of, entry_of}
 use Rattle.pages.specs.Fields.{cap_of, capability_of}
-use Rattle.pages.specs.Book.{after_entry}
 use Rattle.pages.specs.Compose.{fields, cap_body, general_body, line_body}
 use Rattle.pages.proofs.Fields.{length_fields}
 use Rattle.reread.specs.Records.{CapIsRead, GeneralIsRead, LineIsRead}
 use Rattle.reread.proofs.Found.{found, field_at, byte_at, field_of, first_of, byte_of}
 
 -- kind 2
-general_entry : (body : List ℕ) (k v ram : ℕ) → length body ≡ 10 → byte body 0 ≡ 2 → byte body 1 ≡ k → 1 ≤ k → k ≤ 31 → number body 2 8 ≡ v → entry_of body ram ≡ Entry.General k v
+general_entry : (body : List ℕ) (k v ram : ℕ) → length body ≡ 10 → byte body 0 ≡ 2 → byte body 1 ≡ k → 1 ≤ k → k ≤ 31 → number body 2 8 ≡ v → entry_of body ram ≡ Ok (Entry.General k v)
 unfolding entry_of general_of
 general_entry body k v ram l b₀ b₁ h h' e = rw (l, b₀, b₁, le-leb 1 k h, le-leb k 31 h', e)
 
 pub general_is_read : GeneralIsRead
-unfolding general_body after_entry
+unfolding general_body
 general_is_read k v ram h h' w =
     let l : length (general_body k v) ≡ 10 = length_fields ((1, 2) ∷ (1, k) ∷ (8, v) ∷ []) in
     found (general_body k v) ram (Entry.General k v) (omega (arith, l)) (omega (arith, l))
@@ -37,7 +37,6 @@ general_is_read k v ram h h' w =
     (byte_of ((1, 2) ∷ []) ((8, v) ∷ []) k (omega arith))
     h h'
     (field_of ((1, 2) ∷ (1, k) ∷ []) [] 8 v (omega arith) w))
-    (λ end kind key. refl)
 
 -- a flag in a byte
 flag_lt : (b : Bool) → bit b < 256
@@ -69,12 +68,12 @@ cap_of_lem body c base length offset perms otype spare tag sealed =
     }
 
 cap_entry : (body : List ℕ) (k : ℕ) (c : Cap) (ram : ℕ) → length body ≡ 36 → byte body 0 ≡ 1 → byte body 1 ≡ k → leb k 32 ≡ true → leb (byte body 2) 1 ≡ true → leb (byte body 3) 1 ≡ true
-    → ltb (byte body 8) 128 ≡ true → cap_of body ≡ c → top_fits c ≡ true → entry_of body ram ≡ Entry.Capability k c
+    → ltb (byte body 8) 128 ≡ true → cap_of body ≡ c → top_fits c ≡ true → entry_of body ram ≡ Ok (Entry.Capability k c)
 unfolding entry_of capability_of
 cap_entry body k c ram l b₀ b₁ h b₂ b₃ b₈ e top = rw (l, b₀, b₁, h, b₂, b₃, b₈, e, top)
 
 pub cap_is_read : CapIsRead
-unfolding cap_body after_entry
+unfolding cap_body
 cap_is_read k c ram h w top =
     let f₀ : ℕ × ℕ = (1, 1) in
     let f₁ : ℕ × ℕ = (1, k) in
@@ -112,16 +111,15 @@ cap_is_read k c ram h w top =
     (flag_back (byte (cap_body k c) 2) c.tag b₂)
     (flag_back (byte (cap_body k c) 3) c.sealed b₃))
     top)
-    (λ end kind key. refl)
 
 -- kind 3
 line_entry : (body bytes : List ℕ) (a : ℕ) (tag : Bool) (ram : ℕ) → length body ≡ 42 → byte body 0 ≡ 3 → number body 1 8 ≡ a → byte body 9 ≡ bit tag → take 32 (drop 10 body) ≡ bytes
-    → is_line a ram ≡ true → loaded_fits (cap_in tag bytes) ≡ true → entry_of body ram ≡ Entry.Line a tag
+    → is_line a ram ≡ true → loaded_fits (cap_in tag bytes) ≡ true → entry_of body ram ≡ Ok (Entry.Line a tag)
 unfolding entry_of line_of
 line_entry body bytes a tag ram l b₀ n b₉ t h top = rw (l, b₀, n, flag_le (byte body 9) tag b₉, flag_back (byte body 9) tag b₉, t, h, top)
 
 pub line_is_read : LineIsRead
-unfolding line_body after_entry
+unfolding line_body
 line_is_read a tag bytes ram h k l top =
     let f₀ : ℕ × ℕ = (1, 3) in
     let f₁ : ℕ × ℕ = (8, a) in
@@ -135,4 +133,3 @@ line_is_read a tag bytes ram h k l top =
     (byte_at (f₀ ∷ f₁ ∷ []) [] (bit tag) bytes (flag_lt tag))
     (rw (drop_at (fields (f₀ ∷ f₁ ∷ f₂ ∷ [])) bytes 10 q) (take_all 32 bytes (omega (arith, l))))
     h top)
-    (λ end kind key. refl)

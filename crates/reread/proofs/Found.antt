@@ -1,4 +1,5 @@
 -- A record inside a book: its head, its body, its fields, its entry. Assumes nothing.
+use Rattle.std.specs.Prelude.{Ok}
 use Prim.Native.Nat.{ℕ, suc, ◌+◌, ◌-◌, ◌/◌, ◌%◌, ◌^◌, ◌≤◌, ◌<◌}
 use mathlib.Core.Path.{◌≡◌, refl, ◌∙◌, subst}
 use mathlib.Core.List.{List, [], ◌∷◌, ◌++◌, append_assoc, append-nil}
@@ -9,11 +10,10 @@ use lib.Seq.{take_at, drop_at, drop-drop, get_or-append-add}
 use borrow.Author.Tests.{le-ltb, lt-leb, ne_eqb}
 use Rattle.manual.specs.Number.{be, to_be}
 use Rattle.manual.proofs.Numbers.{length-to_be, be-to_be}
-use Rattle.pages.specs.declared.Head.{Head}
 use Rattle.pages.specs.declared.Entry.{Entry}
-use Rattle.pages.specs.Record.{byte, number, body_at, head_at}
+use Rattle.pages.specs.Record.{spans, byte, number, body_at, head_at}
 use Rattle.pages.specs.Entry.{entry_of}
-use Rattle.pages.specs.Book.{ordered_step, after_entry, after_head, step_at}
+use Rattle.pages.specs.Book.{after_entry, after_head, step_at}
 use Rattle.pages.specs.Compose.{fields, record_of}
 use Rattle.pages.proofs.Fields.{bytes_of}
 use Rattle.reread.specs.Records.{Found}
@@ -34,7 +34,7 @@ module _ (before body rest : List ℕ) (some : 0 < length body) (short : length 
   says : number (before ++ (record_of body ++ rest)) (length before) 2 ≡ length body
   says = rw (behind, take_at (to_be 2 (length body)) (body ++ rest) 2 (length-to_be 2 (length body))) (two_bytes (length body) short)
 
-  head : head_at (before ++ (record_of body ++ rest)) (length before) ≡ Head.Body (length before + 2) (length body)
+  head : head_at (before ++ (record_of body ++ rest)) (length before) ≡ spans (length before + 2) (length body)
   unfolding head_at body_at
   head =
       rw (
@@ -62,12 +62,11 @@ fits64 : (n v : ℕ) → n ≤ 8 → v < 256 ^ n → v < 2 ^ 64
 fits64 n v h k = omega (arith, pow-le-pow_right {n = 256} (omega arith) {i = n} {j = 8} h, k)
 
 -- a body that is read as an entry, and not refused, is found wherever its record stands
-pub found : (body : List ℕ) (ram : ℕ) (entry : Entry) → 0 < length body → length body < 65536 → entry_of body ram ≡ entry
-    → ((end kind key : ℕ) → after_entry end entry kind key ≡ ordered_step end entry kind key) → Found body ram entry
-unfolding step_at after_head
-found body ram entry some short e passes before rest kind key o =
+pub found : (body : List ℕ) (ram : ℕ) (entry : Entry) → 0 < length body → length body < 65536 → entry_of body ram ≡ Ok entry → Found body ram entry
+unfolding step_at after_head after_entry
+found body ram entry some short e before rest kind key o =
     let z : length before + 2 + length body ≡ length before + length (record_of body) = record_end body (length before) in
-    rw (head before body rest some short, there before body rest some short, e, z) (passes _ kind key ∙ rw o)
+    rw (head before body rest some short, there before body rest some short, e, z, o)
 
 -- a field among fields, with bytes behind them
 field_in : (fs gs : List (ℕ × ℕ)) (n v : ℕ) (tail : List ℕ) → take n (drop (bytes_of fs) (fields (fs ++ ((n, v) ∷ gs)) ++ tail)) ≡ to_be n v

@@ -1,4 +1,5 @@
 -- A walk over pieces that are each a record or nothing goes on to their end. Assumes nothing.
+use Rattle.std.specs.Prelude.{Ok}
 use Prim.Native.Nat.{ℕ, zero, suc, ◌+◌, ◌≤◌, ◌<◌}
 use mathlib.Core.Path.{◌≡◌, refl, sym, ◌∙◌, ap, subst}
 use mathlib.Core.Bool.{Bool, true, false, cond}
@@ -8,9 +9,7 @@ use borrow.Author.Tests.{le-leb}
 use lib.ListN.{length, length-append}
 use Rattle.pages.specs.declared.Entry.{Entry}
 use Rattle.pages.specs.Record.{head_at}
-use Rattle.pages.specs.declared.Step.{Step}
-use Rattle.manual.specs.declared.Verdict.{Verdict}
-use Rattle.pages.specs.Book.{kind_of, key_of, in_order, after_head, step_at, walk}
+use Rattle.pages.specs.Book.{more, kind_of, key_of, in_order, after_head, step_at, walk}
 use Rattle.pages.proofs.Walks.{rises, goes_on, walk_done}
 use Rattle.pages.specs.Compose.{record_of}
 use Rattle.pages.specs.Runs.{pieces}
@@ -33,13 +32,13 @@ further book at xs ys s =
 
 -- from a place on the walk accepts, after a record of this kind and key
 abbrev pub Goes : List ℕ → ℕ → ℕ → ℕ → ℕ → Type 0
-Goes book ram at kind key = (n : ℕ) → length book ≤ n + at → walk n book ram (step_at book ram at kind key) ≡ Verdict.Accepted
+Goes book ram at kind key = (n : ℕ) → length book ≤ n + at → walk n book ram (step_at book ram at kind key) ≡ (Ok tt)
 
 pub goes_end : (book : List ℕ) (ram at kind key : ℕ) → length book ≤ at → Goes book ram at kind key
 unfolding step_at head_at after_head
 goes_end book ram at kind key h n k = rw (le-leb (length book) at h) (walk_done n book ram)
 
-pub goes_over : (book : List ℕ) (ram at kind key x : ℕ) (e : Entry) → step_at book ram at kind key ≡ Step.More x e → at < x → Goes book ram x (kind_of e) (key_of e) → Goes book ram at kind key
+pub goes_over : (book : List ℕ) (ram at kind key x : ℕ) (e : Entry) → step_at book ram at kind key ≡ more x e → at < x → Goes book ram x (kind_of e) (key_of e) → Goes book ram at kind key
 unfolding walk
 goes_over book ram at kind key x e p h g zero k = refl
 goes_over book ram at kind key x e p h g (suc n) k = rw p (g n (omega arith))
@@ -65,7 +64,7 @@ upto_next K K' b b' kind key h u =
 pub record Passes (book : List ℕ) (ram : ℕ) (absent : Bool) (body : List ℕ) (entry : Entry) (Before After : ℕ → ℕ → ℕ → Type 0) : Type 0 where
   pub skip : absent ≡ true → (at kind key : ℕ) → After at kind key → Before at kind key
   pub over : absent ≡ false → (at : ℕ) (rest : List ℕ) → Suffix book at (record_of body ++ rest)
-      → (kind key x : ℕ) → x ≡ at + length (record_of body) → step_at book ram at kind key ≡ Step.More x entry → at < x → After x (kind_of entry) (key_of entry) → Before at kind key
+      → (kind key x : ℕ) → x ≡ at + length (record_of body) → step_at book ram at kind key ≡ more x entry → at < x → After x (kind_of entry) (key_of entry) → Before at kind key
 
 -- where a walk accepts after a piece, it accepts before it
 pub accepts : (book : List ℕ) (ram : ℕ) (absent : Bool) (body : List ℕ) (entry : Entry) → Passes book ram absent body entry (Goes book ram) (Goes book ram)
@@ -82,7 +81,7 @@ module _ (book : List ℕ) (ram : ℕ) (Before After : ℕ → ℕ → ℕ → T
       q.skip refl at kind key (subst (λ (x : ℕ). After x kind key) z (after kind key (upto_more K b b' kind key (omega arith) u)))
   piece_goes false body entry K b b' ek eb h f q at rest s after kind key u =
       let o : in_order kind key (kind_of entry) (key_of entry) ≡ true = rw (ek, eb) (u.follows b (omega arith)) in
-      let p : step_at book ram at kind key ≡ Step.More (at + length (record_of body)) entry = rw (s.split, ← s.place) (f refl s.before rest kind key o) in
+      let p : step_at book ram at kind key ≡ more (at + length (record_of body)) entry = rw (s.split, ← s.place) (f refl s.before rest kind key o) in
       q.over refl at rest s kind key (at + length (record_of body)) refl p (omega (arith, record_end body at)) (rw (ek, eb) (after K b (upto_own K b b' h)))
 
 -- pieces one after the other; `Holds i` is what holds before piece i

@@ -1,27 +1,26 @@
 -- A book that the writer wrote is one that the reader accepts. Assumes nothing.
-use Prim.Native.Nat.{ℕ, suc, ◌+◌, ◌*◌, ◌≤◌, ◌<◌}
+use Rattle.std.specs.Prelude.{Result, Ok, Err}
+use Prim.Native.Nat.{ℕ, suc, ◌+◌, ◌-◌, ◌*◌, ◌%◌, ◌≤◌, ◌<◌}
 use mathlib.Core.Path.{◌≡◌, refl, sym, ◌∙◌, ap, subst}
 use mathlib.Core.Bool.{Bool, true, false, cond, not, ◌&&◌}
 use mathlib.Core.List.{List, [], ◌∷◌, ◌++◌, append-nil}
 use native.Mathlib.Omega.{arith}
 use lib.Dec.{eqb, ltb}
-use borrow.Author.Tests.{eqb-true}
+use borrow.Author.Tests.{eqb-true, eq-eqb, le-ltb, le-leb}
 use lib.ListN.{length, get_or, take, drop}
 use lib.Seq.{take_at}
 use Rattle.manual.specs.Place.{RAM_BASE}
 use Rattle.manual.specs.Store.{tag_of}
 use Rattle.manual.specs.declared.Cap.{Cap}
 use Rattle.manual.specs.Narrow.{null}
-use Rattle.manual.specs.declared.Verdict.{Verdict}
 use Rattle.manual.specs.Accept.{verdict_of}
 use Rattle.manual.specs.declared.Machine.{Machine}
 use Rattle.manual.specs.declared.Refusal.{Refusal}
 use Rattle.pages.specs.declared.Entry.{Entry}
-use Rattle.pages.proofs.Entries.{within as line-within}
+use Rattle.pages.specs.Entry.{is_line}
 use Rattle.pages.specs.Book.{check_book}
 use Rattle.pages.proofs.Walks.{rises, check_start}
 use Rattle.pages.specs.Compose.{record_of, cap_body, general_body, line_body, zero_cap, zero_bytes}
-use Rattle.manual.specs.declared.Written.{Written}
 use Rattle.pages.specs.Naming.{cap_piece, general_piece}
 use Rattle.pages.specs.Runs.{pieces}
 use Rattle.pages.specs.Spell.{line_bytes, line_piece, cap_pieces, general_pieces, line_pieces, book_of}
@@ -33,6 +32,11 @@ use Rattle.reread.proofs.Walked.{Suffix, further, Goes, goes_end, Upto, upto_nex
 use Rattle.manual.proofs.Accepted.{sizes_fit_lem, cap_top, pcc_top, cap_width, pcc_width, line_top, bytes_32, loaded_top}
 use Rattle.reread.proofs.Accepted.{within}
 use Rattle.reread.proofs.Filled.{zero_cap_lem}
+
+-- an address of a line of the RAM
+line-within : (a r : ℕ) → RAM_BASE ≤ a → a % 32 ≡ 0 → 32 ≤ r → a - RAM_BASE ≤ r - 32 → true ≡ is_line a r
+unfolding is_line
+line-within a r h z k l = rw (le-ltb a RAM_BASE h, eq-eqb (a % 32) 0 z, le-leb (a - RAM_BASE + 32) r (omega arith))
 
 ends : (book : List ℕ) (at : ℕ) → Suffix book at [] → length book ≤ at
 ends book at s = omega (arith, ap length (s.split ∙ append-nil s.before), s.place)
@@ -75,7 +79,7 @@ pub written_omits : (m : Machine) (ram tags : List ℕ) → book_of m ram tags �
 unfolding book_of book_omitting cap_pieces cap_piece general_pieces general_piece zeros
 written_omits m ram tags = refl
 
-module _ (m : Machine) (o : Omits m) (ram tags : List ℕ) (ty : Typed m) (v : Verdict.Accepted ≡ verdict_of m.caps m.pcc m.pending (get_or m.general 0 0) 0 ram tags) where
+module _ (m : Machine) (o : Omits m) (ram tags : List ℕ) (ty : Typed m) (v : (Ok tt) ≡ verdict_of m.caps m.pcc m.pending (get_or m.general 0 0) 0 ram tags) where
   pub there : (length tags * 32 ≤ length ram) × (length tags ≤ 2048)
   there = lines_there (length ram) (length tags) (sizes_fit_lem m.caps m.pcc m.pending (get_or m.general 0 0) 0 ram tags v)
 
@@ -170,7 +174,7 @@ module _ (m : Machine) (o : Omits m) (ram tags : List ℕ) (ty : Typed m) (v : V
         on_caps 1 (record { before = 1 ∷ []; split = e; place = refl }) 0 0
         (record { kinds = omega arith; follows = λ next h. sym (rises 0 0 1 next (omega arith)) })
 
-  pub book_accepted : check_book (book_omitting m o ram tags) (length ram) ≡ Verdict.Accepted
+  pub book_accepted : check_book (book_omitting m o ram tags) (length ram) ≡ (Ok tt)
   unfolding book_omitting
   book_accepted =
       let book = book_omitting m o ram tags in
@@ -180,26 +184,26 @@ module _ (m : Machine) (o : Omits m) (ram tags : List ℕ) (ty : Typed m) (v : V
       (λ at kind k h. goes_end book r at kind k h) refl (length book) (omega arith)
 
 -- what a written book tells of the answer
-answered : (a b : Bool) (book out : List ℕ) (n : ℕ) → (cond a (cond b (refused Refusal.Room out) (wholly book out)) (refused Refusal.Waiting out)).written ≡ Written.Book n
+answered : (a b : Bool) (book out : List ℕ) (n : ℕ) → (cond a (cond b (refused Refusal.Room out) (wholly book out)) (refused Refusal.Waiting out)).written ≡ Ok n
     → (a ≡ true) × (length book ≡ n) × ((cond a (cond b (refused Refusal.Room out) (wholly book out)) (refused Refusal.Waiting out)).out ≡ book ++ drop (length book) out)
 answered true false book out n e = (refl, cc, refl)
 answered true true book out n e = let z : ◌≡◌ {A = ℕ} 0 1 = cc in absurd (omega arith)
 answered false b book out n e = let z : ◌≡◌ {A = ℕ} 0 1 = cc in absurd (omega arith)
 
 module _ (m : Machine) (ram tags out : List ℕ) (n : ℕ) where
-  rested : (after_start m ram tags out).written ≡ Written.Book n
+  rested : (after_start m ram tags out).written ≡ Ok n
       → (rests m ≡ true) × (length (book_of m ram tags) ≡ n) × ((after_start m ram tags out).out ≡ book_of m ram tags ++ drop (length (book_of m ram tags)) out)
   unfolding after_start
   rested = answered (rests m) (ltb (length out) (length (book_of m ram tags))) (book_of m ram tags) out n
 
-  judged : (v : Verdict) → (after_verdict m ram tags out v).written ≡ Written.Book n
-      → (Verdict.Accepted ≡ v) × (rests m ≡ true) × (length (book_of m ram tags) ≡ n) × ((after_verdict m ram tags out v).out ≡ book_of m ram tags ++ drop (length (book_of m ram tags)) out)
-  judged Verdict.Accepted e = let f = rested e in (refl, f.0, f.1, f.2)
-  judged (Verdict.Refused r) e = let z : ◌≡◌ {A = ℕ} 0 1 = cc in absurd (omega arith)
+  judged : (v : Result (Unit {0}) Refusal) → (after_verdict m ram tags out v).written ≡ Ok n
+      → ((Ok tt) ≡ v) × (rests m ≡ true) × (length (book_of m ram tags) ≡ n) × ((after_verdict m ram tags out v).out ≡ book_of m ram tags ++ drop (length (book_of m ram tags)) out)
+  judged (Ok _) e = let f = rested e in (refl, f.0, f.1, f.2)
+  judged (Err r) e = let z : ◌≡◌ {A = ℕ} 0 1 = cc in absurd (omega arith)
 
 -- exactly the book is taken
-pub taken : (m : Machine) (ram tags out : List ℕ) (n : ℕ) → (write_book m ram tags out).written ≡ Written.Book n
-    → (Verdict.Accepted ≡ verdict_of m.caps m.pcc m.pending (get_or m.general 0 0) 0 ram tags) × (rests m ≡ true) × (take n (write_book m ram tags out).out ≡ book_of m ram tags)
+pub taken : (m : Machine) (ram tags out : List ℕ) (n : ℕ) → (write_book m ram tags out).written ≡ Ok n
+    → ((Ok tt) ≡ verdict_of m.caps m.pcc m.pending (get_or m.general 0 0) 0 ram tags) × (rests m ≡ true) × (take n (write_book m ram tags out).out ≡ book_of m ram tags)
 unfolding write_book
 taken m ram tags out n e =
     let f = judged m ram tags out n (verdict_of m.caps m.pcc m.pending (get_or m.general 0 0) 0 ram tags) e in

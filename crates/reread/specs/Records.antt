@@ -6,15 +6,14 @@ use Rattle.manual.specs.Line.{cap_in}
 use Rattle.manual.specs.Accept.{top_fits, loaded_fits}
 use Rattle.pages.specs.declared.Entry.{Entry}
 use Rattle.pages.specs.Entry.{is_line}
-use Rattle.pages.specs.declared.Step.{Step}
-use Rattle.pages.specs.Book.{kind_of, key_of, in_order, step_at}
+use Rattle.pages.specs.Book.{more, kind_of, key_of, in_order, step_at}
 use Rattle.pages.specs.Compose.{record_of, cap_body, general_body, line_body}
 
 -- in any book, behind any bytes, after any record that comes before it: the walk finds this entry, and goes on behind the record
 abbrev pub Found : List ℕ → ℕ → Entry → Type 0
 Found body ram entry =
     (before rest : List ℕ) (kind key : ℕ) → in_order kind key (kind_of entry) (key_of entry) ≡ true
-    → step_at (before ++ (record_of body ++ rest)) ram (length before) kind key ≡ Step.More (length before + length (record_of body)) entry
+    → step_at (before ++ (record_of body ++ rest)) ram (length before) kind key ≡ more (length before + length (record_of body)) entry
 
 abbrev pub CapIsRead : Type 0
 CapIsRead = (number : ℕ) (c : Cap) (ram : ℕ) → number ≤ 32 → Within c → top_fits c ≡ true → Found (cap_body number c) ram (Entry.Capability number c)

@@ -9,49 +9,55 @@ ghost use Rattle.pages.specs.Spell.{cap_pieces, general_pieces, line_pieces, boo
 
 use manual::{Cap, LINE, Machine};
 use mem::RAM_BASE;
+use naming::{General, Line, Recorded, Register};
 use pages::PCC;
 
-fn spell_caps(caps: [Cap; 32], out: &mut [u8], at: usize) -> usize
+// The capability registers that are not zero.
+// As in `giving`, with `name` for `put`: a closure each, and nothing else is alike.
+fn spell_caps(caps: &[Cap; 32], out: &mut [u8], at: usize) -> usize
     requires { at ≤ 2 ^ 16 }
-    ensures { Runs out.old at (cap_pieces caps) out.new result }
+    ensures { Runs out.old at (cap_pieces caps.now) out.new result }
 {
-    let mut end = at;
-    let mut i = 0;
-    while i < 32 {
-        let c = caps[i];
-        end += naming::name_cap(i as u8, c, out, end);
-        i += 1;
-    }
-    end
+    let name = |i: usize, out: &mut [u8], end: usize| {
+        Register {
+            number: i as u8,
+            cap: caps[i],
+        }
+        .name(out, end)
+    };
+    naming::put_each(0..32, name, out, at)
 }
 
-fn spell_generals(general: [u64; 32], out: &mut [u8], at: usize) -> usize
+// General registers 1 to 31 that are not zero.
+fn spell_generals(general: &[u64; 32], out: &mut [u8], at: usize) -> usize
     requires { at ≤ 2 ^ 16 }
-    ensures { Runs out.old at (general_pieces general) out.new result }
+    ensures { Runs out.old at (general_pieces general.now) out.new result }
 {
-    let mut end = at;
-    let mut i = 0;
-    while i < 31 {
-        i += 1;
-        end += naming::name_general(i as u8, general[i], out, end);
-    }
-    end
+    let name = |i: usize, out: &mut [u8], end: usize| {
+        General {
+            number: i as u8,
+            value: general[i],
+        }
+        .name(out, end)
+    };
+    naming::put_each(1..32, name, out, at)
 }
 
+// The lines that are tagged or not all zero.
 fn spell_lines(ram: &[u8], tags: &[u8], out: &mut [u8], at: usize) -> usize
     requires { (length tags.now * 32 ≤ length ram.now) × (length tags.now ≤ 2048) × (at ≤ 2 ^ 16) }
     ensures { Runs out.old at (line_pieces ram.now tags.now) out.new result }
 {
-    let mut end = at;
-    let mut i = 0;
-    while i < tags.len() {
+    let name = |i: usize, out: &mut [u8], end: usize| {
         let start = i * LINE;
-        let e = start + LINE;
-        let tag = tags::tag_of(tags, i);
-        end += naming::name_line(RAM_BASE + start as u64, tag, &ram[start..e], out, end);
-        i += 1;
-    }
-    end
+        Line {
+            address: RAM_BASE + start as u64,
+            tag: tags::tag_of(tags, i),
+            bytes: &ram[start..start + LINE],
+        }
+        .name(out, end)
+    };
+    naming::put_each(0..tags.len(), name, out, at)
 }
 
 // The whole book, from byte 0 on; its length.
@@ -59,13 +65,14 @@ fn spell_all(m: Machine, ram: &[u8], tags: &[u8], out: &mut [u8]) -> usize
     requires { sizes_fit 0 (length ram.now) (length tags.now) ≡ true }
     ensures { Runs out.old 0 (book_of m ram.now tags.now) out.new result }
 {
-    let caps = m.caps;
-    let pcc = m.pcc;
-    let general = m.general;
     store::put_be(out, 0, 1, 1);
-    let named = spell_caps(caps, out, 1);
-    let all = named + naming::name_cap(PCC, pcc, out, named);
-    let registers = spell_generals(general, out, all);
+    let named = spell_caps(&m.caps, out, 1);
+    let pcc = Register {
+        number: PCC,
+        cap: m.pcc,
+    };
+    let all = named + pcc.name(out, named);
+    let registers = spell_generals(&m.general, out, all);
     spell_lines(ram, tags, out, registers)
 }
 

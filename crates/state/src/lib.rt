@@ -1,20 +1,16 @@
-// What a step leaves in the registers, and whether a jump waits.
+// What a step leaves in the registers.
 #![tactic(auto)]
 
 ghost use Rattle.std.specs.Prelude.{◌≡◌};
-ghost use Rattle.manual.specs.Registers.{is_pending};
 ghost use Rattle.manual.specs.State.{next_pcc, kept};
 
-use manual::{Cap, Pending};
+use manual::Cap;
 
 // The PCC of the next step: the pending jump, or 4 bytes on.
-pub fn next_pcc(pcc: Cap, pending: Pending) -> Cap
+pub fn next_pcc(pcc: Cap, pending: Option<Cap>) -> Cap
     ensures { result ≡ next_pcc pcc pending }
 {
-    match pending {
-        Pending::Quiet => narrow::inc_offset(pcc, 4),
-        Pending::Jump(target) => target,
-    }
+    pending.unwrap_or(narrow::inc_offset(pcc, 4))
 }
 
 // General register 0 stays 0.
@@ -23,14 +19,4 @@ pub fn kept_zero(rd: usize, value: u64) -> u64
     ensures { result ≡ kept rd value }
 {
     if rd == 0 { 0 } else { value }
-}
-
-// Whether a jump waits for its slot.
-pub fn is_pending(pending: Pending) -> bool
-    ensures { result ≡ is_pending pending }
-{
-    match pending {
-        Pending::Quiet => false,
-        Pending::Jump(_) => true,
-    }
 }

@@ -1,10 +1,9 @@
 -- The checksums of a case's line, as the second program makes them (second/src/generate/answers.rs).
-use Rattle.std.specs.Prelude.{ℕ, ◌+◌, ◌*◌, ◌%◌, ◌^◌}
+use Rattle.std.specs.Prelude.{ℕ, ◌+◌, ◌*◌, ◌%◌, ◌^◌, Option, Some, None}
 use mathlib.Core.List.{List, ◌++◌, flat_map, foldl}
 use Rattle.manual.specs.Number.{to_be}
 use Rattle.manual.specs.Store.{bit}
 use Rattle.manual.specs.declared.Cap.{Cap}
-use Rattle.manual.specs.declared.Pending.{Pending}
 use Rattle.manual.specs.declared.Machine.{Machine}
 
 -- each byte makes it (checksum * 16,777,619 + byte) mod 2^32
@@ -20,9 +19,9 @@ cap_bytes c =
     to_be 1 (bit c.tag) ++ (to_be 1 (bit c.sealed) ++ (to_be 1 c.spare ++ (to_be 4 c.otype ++ (to_be 4 c.perms
     ++ (to_be 8 c.base.0 ++ (to_be 8 c.length ++ to_be 8 c.offset.0))))))
 
-unfoldable pub pending_bytes : Pending → List ℕ
-pending_bytes Pending.Quiet = to_be 1 0
-pending_bytes (Pending.Jump c) = to_be 1 1 ++ cap_bytes c
+unfoldable pub pending_bytes : Option Cap → List ℕ
+pending_bytes None = to_be 1 0
+pending_bytes (Some c) = to_be 1 1 ++ cap_bytes c
 
 -- general registers 0 to 31, capability registers 0 to 31, PCC, a byte 1 and the pending jump or a byte 0 alone, the cause register
 unfoldable pub machine_bytes : Machine → List ℕ

@@ -2,77 +2,47 @@
 #![tactic(auto)]
 
 ghost use Rattle.std.specs.Prelude.{◌≡◌};
-ghost use mathlib.Core.List.{flat_map};
 ghost use Rattle.manual.specs.Number.{to_be};
 ghost use Rattle.sums.specs.Sums.{sum_with, checksum, cap_bytes, pending_bytes, machine_bytes};
 
-use manual::{Cap, Machine, Pending};
+use manual::{Cap, Machine};
 
-// The checksum with a byte more; below, with a number of 2, 4 and 8 bytes more.
-fn sum_1(sum: u64, v: u64) -> u64
-    ensures { result ≡ sum_with sum (to_be 1 v) }
+// The checksum with these bytes more; below, with one byte, a capability's, and a pending jump's.
+#[tactic(auto, unfolding(crate::specs::Sums::sum_with))]
+fn add(sum: u32, bytes: &[u8]) -> u32
+    ensures { result ≡ sum_with sum bytes.now }
 {
-    (sum % 0x1_0000_0000 * 16_777_619 + v % 256) % 0x1_0000_0000
+    bytes.iter().fold(sum, |sum, byte| {
+        sum.wrapping_mul(16_777_619).wrapping_add(u32::from(*byte))
+    })
 }
 
-fn sum_2(sum: u64, v: u64) -> u64
-    ensures { result ≡ sum_with sum (to_be 2 v) }
+#[tactic(auto, using(crate::proofs::Sums::be_byte))]
+fn add_byte(sum: u32, byte: u8) -> u32
+    ensures { result ≡ sum_with sum (to_be 1 byte) }
 {
-    sum_1(sum_1(sum, v / 0x100), v)
+    add(sum, &[byte])
 }
 
-fn sum_4(sum: u64, v: u64) -> u64
-    ensures { result ≡ sum_with sum (to_be 4 v) }
-{
-    sum_2(sum_2(sum, v / 0x1_0000), v)
-}
-
-fn sum_8(sum: u64, v: u64) -> u64
-    ensures { result ≡ sum_with sum (to_be 8 v) }
-{
-    sum_4(sum_4(sum, v / 0x1_0000_0000), v)
-}
-
-fn sum_cap(sum: u64, c: Cap) -> u64
+fn add_cap(sum: u32, c: Cap) -> u32
     ensures { result ≡ sum_with sum (cap_bytes c) }
 {
-    let flags = sum_1(
-        sum_1(
-            sum_1(sum, tags::tag_byte(c.tag) as u64),
-            tags::tag_byte(c.sealed) as u64,
-        ),
-        c.spare as u64,
-    );
-    let rights = sum_4(sum_4(flags, c.otype as u64), c.perms as u64);
-    sum_8(sum_8(sum_8(rights, c.base.0), c.length), c.offset.0)
+    let sum = add_byte(sum, u8::from(c.tag));
+    let sum = add_byte(sum, u8::from(c.sealed));
+    let sum = add_byte(sum, c.spare);
+    let sum = add(sum, &c.otype.to_be_bytes());
+    let sum = add(sum, &c.perms.to_be_bytes());
+    let sum = add(sum, &c.base.0.to_be_bytes());
+    let sum = add(sum, &c.length.to_be_bytes());
+    add(sum, &c.offset.0.to_be_bytes())
 }
 
-fn sum_general(start: u64, general: [u64; 32]) -> u64
-    ensures { result ≡ sum_with start (flat_map (to_be 8) general) }
-{
-    let mut sum = start;
-    for i in 0..32 {
-        sum = sum_8(sum, general[i]);
-    }
-    sum
-}
-
-fn sum_caps(start: u64, caps: [Cap; 32]) -> u64
-    ensures { result ≡ sum_with start (flat_map cap_bytes caps) }
-{
-    let mut sum = start;
-    for i in 0..32 {
-        sum = sum_cap(sum, caps[i]);
-    }
-    sum
-}
-
-fn sum_pending(sum: u64, pending: Pending) -> u64
+fn add_pending(sum: u32, pending: Option<Cap>) -> u32
     ensures { result ≡ sum_with sum (pending_bytes pending) }
 {
     match pending {
-        Pending::Quiet => sum_1(sum, 0),
-        Pending::Jump(c) => sum_cap(sum_1(sum, 1), c),
+        None => add_byte(sum, 0),
+        Some(c) => add_cap(add_byte(sum, 1), c),
     }
 }
 
@@ -80,19 +50,17 @@ fn sum_pending(sum: u64, pending: Pending) -> u64
 pub fn sum_machine(m: Machine) -> u64
     ensures { result ≡ checksum (machine_bytes m) }
 {
-    let general = m.general;
-    let caps = m.caps;
-    let pending = m.pending;
-    let registers = sum_cap(sum_caps(sum_general(1, general), caps), m.pcc);
-    sum_2(sum_pending(registers, pending), m.cause as u64)
+    let sum = m
+        .general
+        .iter()
+        .fold(1, |sum, value| add(sum, &value.to_be_bytes()));
+    let sum = m.caps.iter().fold(sum, |sum, c| add_cap(sum, *c));
+    let sum = add_pending(add_cap(sum, m.pcc), m.pending);
+    u64::from(add(sum, &m.cause.to_be_bytes()))
 }
 
 pub fn sum_bytes(bytes: &[u8]) -> u64
     ensures { result ≡ checksum bytes.now }
 {
-    let mut sum: u64 = 1;
-    for i in 0..bytes.len() {
-        sum = sum_1(sum, num::wide(bytes[i]) as u64);
-    }
-    sum
+    u64::from(add(1, bytes))
 }

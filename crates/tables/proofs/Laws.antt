@@ -1,19 +1,10 @@
--- What is read of a case, within its bytes and past them, and what is put into a memory. Assumes nothing.
-use Rattle.std.proofs.Common.{◌≡◌, ℕ, suc, ◌+◌, ◌-◌, ◌<◌, ◌≤◌, List, [], ◌++◌, length, take, drop, set, replicate, sym, ap, ◌∙◌, append-nil, arith, drop_of_length-le, length-take-le, le-ltb, lt-ltb, le-leb}
+-- What is read of a case, within its bytes and past them. Assumes nothing.
+use Rattle.std.proofs.Common.{◌≡◌, ℕ, suc, ◌+◌, ◌-◌, ◌<◌, ◌≤◌, List, [], ◌++◌, length, take, drop, set, ap, ◌∙◌, arith, length-take-le, le-ltb, lt-ltb, le-leb}
 use native.Mathlib.Nat.{add-sub_cancel_left}
 use borrow.Author.Tests.{lt-leb}
 use borrow.Rule.Slice.PartMut.{put_mid, post_of}
 use lib.Seq.{take-append-add, take-append-le}
-use lib.ListN.{get_or-eq_default}
-use Rattle.std.specs.Counts.{IsPrefixLen}
 use Rattle.tables.specs.Tables.{byte_at, place_after, part_at, number_at, entries, with_value}
-
-pub byte_past : (s : List ℕ) (at : ℕ) → length s ≤ at → 0 ≡ byte_at s at
-byte_past s at h = sym (get_or-eq_default s 0 {n = at} h)
-
--- what is no more than a list's length counts elements at its start
-pub counts : (n : ℕ) (l : List ℕ) → n ≤ length l → IsPrefixLen n l
-counts n l h = (h, sym (length-take-le n l h))
 
 module _ (s : List ℕ) (at size : ℕ) where
   pub part_in : at + size ≤ length s → take (at + size - at) (drop at s) ≡ part_at s at size
@@ -43,10 +34,6 @@ module _ (body general : List ℕ) (at number value : ℕ) (p : number ≡ byte_
   pub value_none : (general' : List ℕ) → 32 ≤ number → general' ≡ general → general' ≡ with_value body at general
   unfolding with_value
   value_none general' h e = rw (← p, le-ltb number 32 h) e
-
--- filled from the front to the end
-pub filled : (l ys : List ℕ) (b i : ℕ) → ys ≡ replicate i b ++ drop i l → i ≤ length l → length l ≤ i → ys ≡ replicate (length l) b
-filled l ys b i e h k = let z : i ≡ length l = omega arith in e ∙ rw (drop_of_length-le l k, append-nil, z)
 
 -- what is read at `done` stands behind what was read before
 pub read_more : (l ys : List ℕ) (done k n : ℕ) → done ≤ length l → n ≤ length ys → take (done + n) (put_mid done k l ys) ≡ take done l ++ take n ys

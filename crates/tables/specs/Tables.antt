@@ -1,10 +1,9 @@
 -- A case of a table as the second program lays it out (second/src/generate/format.rs); what is read past the end is 0.
-use Rattle.std.specs.Prelude.{ℕ, zero, suc, ◌+◌, ◌*◌, ◌%◌, ◌^◌, cond, List, [], length, take, drop, replicate, ◌==◌, nat_le, nat_lt, slice_index, slice_set}
+use Rattle.std.specs.Prelude.{ℕ, zero, suc, ◌+◌, ◌*◌, ◌%◌, ◌^◌, cond, List, [], length, take, drop, replicate, ◌==◌, nat_le, nat_lt, slice_index, slice_set, Some, None}
 use Rattle.manual.specs.Number.{be}
 use Rattle.manual.specs.Store.{put}
 use Rattle.manual.specs.declared.Cap.{Cap}
 use Rattle.manual.specs.Narrow.{null}
-use Rattle.manual.specs.declared.Pending.{Pending}
 use Rattle.manual.specs.declared.Machine.{Machine}
 
 abbrev pub byte_at : List ℕ → ℕ → ℕ
@@ -67,7 +66,7 @@ unfoldable pub with_named : ℕ → Cap → Machine → Machine
 with_named number c m =
     cond (nat_lt number 32) (record { general = m.general; caps = slice_set m.caps number c; pcc = m.pcc; pending = m.pending; cause = m.cause })
     (cond (number == 32) (record { general = m.general; caps = m.caps; pcc = c; pending = m.pending; cause = m.cause })
-    (cond (number == 33) (record { general = m.general; caps = m.caps; pcc = m.pcc; pending = Pending.Jump c; cause = m.cause }) m))
+    (cond (number == 33) (record { general = m.general; caps = m.caps; pcc = m.pcc; pending = Some c; cause = m.cause }) m))
 
 -- capabilities, each a number (1) and its fields (35)
 abbrev pub cap_end : ℕ → ℕ
@@ -80,7 +79,7 @@ with_cap body at m = with_named (byte_at body at) (cap_in (part_at body (place_a
 unfoldable pub machine_in : List ℕ → ℕ → Machine
 machine_in body start =
     entries (byte_at body (cap_count body start)) cap_end (with_cap body) (place_after (cap_count body start) 1)
-    (record { general = general_in body start; caps = replicate 32 null; pcc = null; pending = Pending.Quiet; cause = number_at body start 2 % 2 ^ 16 })
+    (record { general = general_in body start; caps = replicate 32 null; pcc = null; pending = None; cause = number_at body start 2 % 2 ^ 16 })
 
 -- a piece: a place (4), a length (2) and that many bytes; one that does not fit changes nothing
 unfoldable pub piece_end : List ℕ → ℕ → ℕ

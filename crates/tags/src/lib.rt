@@ -11,11 +11,7 @@ use manual::{LINE, Place};
 pub fn tag_of(tags: &[u8], line: usize) -> bool
     ensures { result ≡ tag_of tags.now line }
 {
-    if line < tags.len() {
-        if tags[line] == 1 { true } else { false }
-    } else {
-        false
-    }
+    tags.get(line) == Some(&1)
 }
 
 // The tag that an access at a place loads: flash has no tags.
@@ -24,22 +20,17 @@ pub fn tag_at(tags: &[u8], place: Place) -> bool
 {
     match place {
         Place::Ram(at) => tag_of(tags, at / LINE),
-        Place::Flash(_) => false,
-        Place::Nowhere => false,
+        Place::Flash(_) | Place::Nowhere => false,
     }
 }
 
-pub fn tag_byte(tag: bool) -> u8
-    ensures { result ≡ bit tag }
-{
-    if tag { 1 } else { 0 }
-}
-
 // Sets the tag of a line, and no other; a line past the last has none to set.
+#[tactic(auto, unfolding(manual::specs::Store::with_tag))]
 pub fn with_tag(tags: &mut [u8], line: usize, tag: bool)
     ensures { tags.new ≡ with_tag tags.old line tag }
 {
+    // Not by `get_mut`: of what is written through it no contract says enough.
     if line < tags.len() {
-        tags[line] = tag_byte(tag);
+        tags[line] = u8::from(tag);
     }
 }

@@ -2,13 +2,14 @@
 #![tactic(auto)]
 
 ghost use Rattle.std.specs.Prelude.{◌≡◌};
-ghost use Rattle.manual.specs.Told.{refusal_number, verdict_number, code_of, bytes_of, refusing, answer_put};
+ghost use Rattle.manual.specs.Told.{refusal_number, code_of, bytes_of, refusing, answer_put};
 
-use manual::{Answer, Refusal, Verdict, Written};
+use manual::{Answer, Refusal};
 
 // How many numbers an answer has.
 pub const ANSWER_NUMBERS: usize = 5;
 
+// A function and no From: of the numbers that are told, its name says which.
 pub fn refusal_number(refusal: Refusal) -> u8
     ensures { result ≡ refusal_number refusal }
 {
@@ -28,31 +29,19 @@ pub fn refusal_number(refusal: Refusal) -> u8
 }
 
 // 0, or the number of the refusal.
-pub fn verdict_number(verdict: Verdict) -> u8
-    ensures { result ≡ verdict_number verdict }
+pub fn code_of<T: Copy>(answer: Result<T, Refusal>) -> u8
+    ensures { result ≡ code_of answer }
 {
-    match verdict {
-        Verdict::Accepted => 0,
-        Verdict::Refused(refusal) => refusal_number(refusal),
+    match answer {
+        Ok(_) => 0,
+        Err(refusal) => refusal_number(refusal),
     }
 }
 
-pub fn code_of(written: Written) -> u8
-    ensures { result ≡ code_of written }
-{
-    match written {
-        Written::Book(_) => 0,
-        Written::Refused(refusal) => refusal_number(refusal),
-    }
-}
-
-pub fn bytes_of(written: Written) -> usize
+pub fn bytes_of(written: Result<usize, Refusal>) -> usize
     ensures { result ≡ bytes_of written }
 {
-    match written {
-        Written::Book(bytes) => bytes,
-        Written::Refused(_) => 0,
-    }
+    written.unwrap_or(0)
 }
 
 pub fn refusing(refusal: Refusal) -> Answer
@@ -74,9 +63,9 @@ pub fn put_answer(a: Answer, answer: &mut [u64])
     if answer.len() < ANSWER_NUMBERS {
         return;
     }
-    answer[0] = a.stop as u64;
-    answer[1] = a.cause as u64;
-    answer[2] = a.register as u64;
+    answer[0] = u64::from(a.stop);
+    answer[1] = u64::from(a.cause);
+    answer[2] = u64::from(a.register);
     answer[3] = a.place;
-    answer[4] = a.steps as u64;
+    answer[4] = u64::from(a.steps);
 }

@@ -5,19 +5,21 @@ ghost use Rattle.std.specs.Prelude.{◌≡◌};
 ghost use Rattle.manual.specs.Checks.{settle};
 ghost use Rattle.manual.specs.Transfer.{Through, load, store};
 
-use manual::{Access, Cap, Check, Effect, Fault, LENGTH, Named, Planned, Size};
+use manual::{Cap, Effect, Fault, Named, Size};
 
 // What every access through cb asks before its range: open, tagged, unsealed, permitted.
-pub fn through(k: Check, pcc: Cap, cb: Named, permission: u32) -> Check
-    ensures { Through k pcc cb permission result }
+#[tactic(auto, unfolding(manual::specs::Checks::finish, manual::specs::Checks::settle))]
+pub fn through(pcc: Cap, cb: Named, permission: u32) -> Result<(), Fault>
+    ensures { Through pcc cb permission result }
 {
-    let k = checks::opened(k, pcc.perms, cb.number);
-    let k = checks::tagged(k, cb);
-    let k = checks::unsealed(k, cb);
-    checks::granted(k, cb, permission)
+    checks::opened(pcc.perms, cb.number)?;
+    checks::tagged(cb)?;
+    checks::unsealed(cb)?;
+    checks::granted(cb, permission)
 }
 
 // A load of data; LD and LBU are loads through C0.
+#[tactic(auto, unfolding(manual::specs::Transfer::load, manual::specs::Checks::finish, manual::specs::Checks::settle))]
 pub fn plan_load(
     size: Size,
     signed: bool,
@@ -26,27 +28,27 @@ pub fn plan_load(
     rd: u8,
     cb: Named,
     rt: u64,
-) -> Planned
+) -> Result<Effect, Fault>
     ensures { result ≡ settle (load size signed immediate pcc rd cb rt) }
 {
-    let k = through(Check::Passed, pcc, cb, cap::LOAD);
-    let lies = access::test(cb.cap, rt, immediate, size);
-    match lies {
-        Access::At(at) => checks::does(k, Effect::Load(size, signed, at, rd)),
-        Access::Length => checks::fails(k, Fault::Raise(LENGTH, cb.number)),
-        Access::Misaligned => checks::fails(k, Fault::Misaligned),
-    }
+    through(pcc, cb, cap::LOAD)?;
+    let at = access::lies(cb, rt, immediate, size, Fault::Misaligned)?;
+    Ok(Effect::Load(size, signed, at, rd))
 }
 
 // A store of data; SD and SB are stores through C0.
-pub fn plan_store(size: Size, immediate: u64, pcc: Cap, rs: u64, cb: Named, rt: u64) -> Planned
+#[tactic(auto, unfolding(manual::specs::Transfer::store, manual::specs::Checks::finish, manual::specs::Checks::settle))]
+pub fn plan_store(
+    size: Size,
+    immediate: u64,
+    pcc: Cap,
+    rs: u64,
+    cb: Named,
+    rt: u64,
+) -> Result<Effect, Fault>
     ensures { result ≡ settle (store size immediate pcc rs cb rt) }
 {
-    let k = through(Check::Passed, pcc, cb, cap::STORE);
-    let lies = access::test(cb.cap, rt, immediate, size);
-    match lies {
-        Access::At(at) => checks::does(k, Effect::Store(size, at, rs)),
-        Access::Length => checks::fails(k, Fault::Raise(LENGTH, cb.number)),
-        Access::Misaligned => checks::fails(k, Fault::StoreMisaligned),
-    }
+    through(pcc, cb, cap::STORE)?;
+    let at = access::lies(cb, rt, immediate, size, Fault::StoreMisaligned)?;
+    Ok(Effect::Store(size, at, rs))
 }

@@ -1,4 +1,5 @@
 -- The laws of the writer's answers after 24. Assumes nothing.
+use Rattle.std.specs.Prelude.{Ok, Err}
 use Prim.Native.Nat.{ℕ, ◌+◌, ◌≤◌, ◌<◌}
 use mathlib.Core.Path.{◌≡◌, ◌∙◌, ap}
 use mathlib.Core.Bool.{true, false}
@@ -11,7 +12,6 @@ use Rattle.manual.proofs.Stores.{put-fits, put_out, length-put}
 use Rattle.manual.specs.declared.Refusal.{Refusal}
 use Rattle.manual.specs.Accept.{sizes_fit}
 use Rattle.manual.specs.declared.Machine.{Machine}
-use Rattle.manual.specs.declared.Written.{Written}
 use Rattle.pages.specs.Spell.{book_of, legal_book}
 use Rattle.pages.specs.Write.{rests, refused, after_start}
 
@@ -36,14 +36,14 @@ module _ (m : Machine) (ram tags out : List ℕ) where
     kept : length after ≡ length out
     kept = ap length puts ∙ length-put out 0 (book_of m ram tags)
 
-    pub no_room : length after < n → record { written = Written.Refused Refusal.Room; out = after } ≡ after_start m ram tags out
+    pub no_room : length after < n → record { written = Err Refusal.Room; out = after } ≡ after_start m ram tags out
     unfolding after_start
     no_room k =
         let s : length out < length (book_of m ram tags) = omega (arith, bytes, kept, k) in
         let e : after ≡ out = puts ∙ put_out out 0 (book_of m ram tags) (omega (arith, s)) in
         rw (h, lt-ltb (length out) (length (book_of m ram tags)) s, e)
 
-    pub written : n ≤ length after → record { written = Written.Book n; out = after } ≡ after_start m ram tags out
+    pub written : n ≤ length after → record { written = Ok n; out = after } ≡ after_start m ram tags out
     unfolding after_start
     written k =
         let b = book_of m ram tags in

@@ -1,31 +1,16 @@
-use mathlib.Core.Path.{sym, ◌∙◌}
-use Rattle.manual.proofs.Chains.{start}
+use mathlib.Core.Path.{◌∙◌}
+use Rattle.manual.proofs.Chains.{stops, passes, breaks}
+use Rattle.manual.specs.Checks.{finish}
 use Rattle.manual.specs.Transfer.{c_sc}
 use Rattle.captransfer.proofs.csc.Goals as goal
 
-pub returns-in-At : goal.returns-in-At
-unfolding c_sc
-returns-in-At c = rw (← c.lacking_cause-cause.ensures, ← c.may_store.ensures, ← sym c.in-At.is ∙ c.test-lies.ensures)
-    (c.does.ensures
-    ∙ c.that-k.ensures _
-    ∙ c.through-k.ensures _
-    ∙ c.opened-k.ensures _
-    ∙ start _)
+pub returns-in_err-through : goal.returns-in_err-through
+unfolding c_sc finish
+returns-in_err-through c = stops _ c.from_residual-in_err-through.ensures.1 (c.in_err-through.ensures _ ∙ passes _ _ _ c.in_ok-opened.ensures)
 
-pub returns-in-Length : goal.returns-in-Length
-unfolding c_sc
-returns-in-Length c = rw (← c.lacking_cause-cause.ensures, ← c.may_store.ensures, ← sym c.in-Length.is ∙ c.test-lies.ensures)
-    (c.fails.ensures
-    ∙ c.that-k.ensures _
-    ∙ c.through-k.ensures _
-    ∙ c.opened-k.ensures _
-    ∙ start _)
-
-pub returns-in-Misaligned : goal.returns-in-Misaligned
-unfolding c_sc
-returns-in-Misaligned c = rw (← c.lacking_cause-cause.ensures, ← c.may_store.ensures, ← sym c.in-Misaligned.is ∙ c.test-lies.ensures)
-    (c.fails-in-Misaligned.ensures
-    ∙ c.that-k.ensures _
-    ∙ c.through-k.ensures _
-    ∙ c.opened-k.ensures _
-    ∙ start _)
+pub returns-in_err-that : goal.returns-in_err-that
+unfolding c_sc finish
+returns-in_err-that c = stops _ c.from_residual-in_err-that.ensures.1
+    (breaks _ _ _ _ (rw (c.may_store.ensures, c.lacking_cause-cause.ensures) at c.in_err-that.ensures)
+    ∙ c.in_ok-through.ensures _
+    ∙ passes _ _ _ c.in_ok-opened.ensures)

@@ -1,26 +1,11 @@
-use Prim.Native.Nat.{◌-◌}
-use mathlib.Core.Path.{◌∙◌}
-use native.Mathlib.Omega.{arith}
-use lib.ListN.{length}
-use borrow.Author.Tests.{eq-eqb, ne_eqb}
-use Rattle.manual.proofs.Scans.{begins, fails, passes, ends}
-use Rattle.compose.proofs.all_zero.Invariants.{test}
+use Rattle.std.proofs.Common.{rules, ◌∙◌, sym, nat_eq}
+use Rattle.std.proofs.lemmas.Iterator.{YieldsList-from_slice}
+use Rattle.std.proofs.lemmas.Iterator.Search.{all_from_yields_List}
+use Rattle.compose.proofs.Zeros.{every_element}
 use Rattle.compose.proofs.all_zero.Goals as goal
 
-pub returns-then-bytes-i-ne0 : goal.returns-then-bytes-i-ne0
-returns-then-bytes-i-ne0 c = let l = c.loop-i in
-    let a = c.args in
-    fails (length a.bytes.now) l.i (test a.bytes.now) c.loop-i-test.true (ne_eqb _ _ c.if-bytes-i-ne0.true) ∙ l.invariant.1
-
-pub loop-i-preserved : goal.loop-i-preserved
-loop-i-preserved c = let l = c.loop-i in
-    let a = c.args in
-    (omega arith, passes (length a.bytes.now) l.i (test a.bytes.now) c.loop-i-test.true (eq-eqb _ _ c.if-bytes-i-ne0.false) ∙ l.invariant.1)
-
 pub returns : goal.returns
-returns c = let l = c.loop-i in
-    let a = c.args in
-    ends (length a.bytes.now) l.i (test a.bytes.now) c.loop-i-test.false ∙ l.invariant.1
-
-pub loop-i-init : goal.loop-i-init
-loop-i-init c = (omega arith, begins _ _)
+returns c =
+    let xs = c.args.bytes.now in
+    all_from_yields_List (λ x. nat_eq x 0) _ _ _ c.all.ensures.ran (YieldsList-from_slice xs (cc)) (λ x b q k. search rules)
+    ∙ sym (every_element (λ x. nat_eq x 0) xs)

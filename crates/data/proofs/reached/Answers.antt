@@ -1,8 +1,5 @@
-use Rattle.data.proofs.Reaches.{reaches, reaches_not}
+use Rattle.data.proofs.Reaches.{reaches}
 use Rattle.data.proofs.reached.Goals as goal
 
-pub returns-then-both : goal.returns-then-both
-returns-then-both c = reaches _ _ _ _ _ _ _ (rw (← c.both-free.ensures, ← c.permits-granted.ensures, ← c.both.ensures, ← c.both-2.ensures) c.if-both.true) c.near.ensures
-
-pub returns : goal.returns
-returns c = reaches_not _ _ _ _ _ _
+pub returns-then-granted : goal.returns-then-granted
+returns-then-granted c = reaches _ _ _ _ _ _ _ c.if-opens.true c.if-c.true c.if-not-c.true (rw c.permits-granted.ensures at c.if-granted.true) c.near.ensures

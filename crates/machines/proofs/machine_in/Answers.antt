@@ -17,12 +17,8 @@ loop-init c = rw (
 )
 
 pub loop-preserved : goal.loop-preserved
-unfolding with_cap
 loop-preserved c = let l = c.loop in
-    let body = c.args.body.now in
-    entry_more cap_end (with_cap body) _ l.counter l.at l.m _ _ c.loop-test.true c.after-at-in-loop.ensures
-    (rw (← c.byte.ensures, ← c.after.ensures, ← c.part.ensures, ← c.cap_in.ensures) c.with_named-m.ensures)
-    ∙ l.invariant
+    entry_more cap_end (with_cap c.args.body.now) _ l.counter l.at l.m _ _ c.loop-test.true c.after-at-in-loop.ensures c.with_cap-m.ensures ∙ l.invariant
 
 pub returns : goal.returns
 returns c = let l = c.loop in sym (entry_none cap_end (with_cap _) _ l.counter l.at l.m c.loop-test.false) ∙ l.invariant

@@ -1,9 +1,6 @@
-use Rattle.std.proofs.Common.{◌≡◌, ◌-◌, ◌%◌, ◌^◌, ◌≤◌, length, take}
+use Rattle.std.proofs.Common.{◌≡◌, ◌%◌, ◌^◌, take}
 use Rattle.manual.specs.Number.{be}
 use Rattle.num.proofs.load_be.Given as goal
 
-abbrev pub invariant-loop-i : goal.invariant-loop-i
-invariant-loop-i l = (l.i ≤ length l.part) × (l.v ≡ be (take l.i l.part) % 2 ^ 64)
-
-abbrev pub decreases-loop-i : goal.decreases-loop-i
-decreases-loop-i l = length l.part - l.i
+abbrev pub invariant-loop-b : goal.invariant-loop-b
+invariant-loop-b l = l.v ≡ be (take l.b-index l.part) % 2 ^ 64

@@ -21,6 +21,6 @@ unfolding memory_in
 returns c = let l = c.loop in
     let left = c.loop-test.false in record {
       value = sym (entry_none (piece_end _) (λ x _. piece_end _ x) _ l.counter l.at l.at left) ∙ l.invariant.2;
-      memory_after = rw (← c.after.ensures, ← c.byte.ensures, ← c.after-at.ensures, ← c.after-2.ensures, ← c.number_4-end.ensures, ← c.fill.ensures)
+      memory_after = rw (← c.after.ensures, ← c.byte.ensures, ← c.after-at.ensures, ← c.after-2.ensures, ← c.number_4-end.ensures, ← c.fill.ensures.after)
           (sym (entry_none (piece_end _) (with_piece _) _ l.counter l.at l.memory left) ∙ l.invariant.1);
     }

@@ -1,6 +1,4 @@
 use mathlib.Core.Path.{sym, ◌∙◌}
-use mathlib.Core.Bool.{true}
-use Rattle.manual.specs.Accept.{sizes_fit}
 use Rattle.pages.proofs.Books.{no_book, no_room, spelled}
 use Rattle.spell.proofs.put_book.Goals as goal
 
@@ -21,9 +19,3 @@ returns-else-bytes-out c =
     let a = c.args in
     let e = no_room a.m a.ram.now a.tags.now a.out.now (sym c.sizes_fit.ensures ∙ c.if-not-sizes_fit.false) _ _ c.spell_all-bytes.ensures c.if-bytes-out.false in
     record { value = e.0; out_after = e.1 }
-
-pub spell_all-bytes-requires : goal.spell_all-bytes-requires
-spell_all-bytes-requires c = (sym c.sizes_fit.ensures ∙ c.if-not-sizes_fit.false)
-
-pub spell_all-requires : goal.spell_all-requires
-spell_all-requires c = (sym c.sizes_fit.ensures ∙ c.if-not-sizes_fit.false)

@@ -1,40 +1,29 @@
-use Prim.Native.Nat.{◌+◌, ◌-◌}
-use mathlib.Core.Path.{ap}
-use native.Mathlib.Omega.{arith}
-use lib.ListN.{length}
-use Rattle.pages.proofs.RunLaws.{run_begins, run_next, run_all, run_ends}
+use Rattle.std.proofs.Common.{rules, arith, ℕ, ◌≡◌, ◌+◌, ◌*◌, ◌-◌, length, take, drop, length-take, refl, subst}
+use Rattle.manual.specs.Place.{RAM_BASE}
+use Rattle.manual.specs.Store.{put, tag_of}
+use Rattle.pages.specs.Naming.{line_named}
+use Rattle.pages.specs.Runs.{pieces, Runs}
 use Rattle.pages.specs.Spell.{line_pieces, line_piece}
-use Rattle.pages.proofs.Books.{line_most, line_told}
+use Rattle.pages.proofs.Books.{line_told}
+use Rattle.pages.proofs.Pieces.{line_most}
 use Rattle.spell.proofs.spell_lines.Goals as goal
 
-pub loop-i-init : goal.loop-i-init
-loop-i-init c = let a = c.args in (omega arith, run_begins _ _ 0 (line_piece a.ram.now a.tags.now))
-
-pub overflow_add-end : goal.overflow_add-end
-overflow_add-end c = let l = c.loop-i in
-    let a = c.args in
-    let n = line_told a.ram.now a.tags.now l.out _ l.i l.end _ _ c.tag_of-tag.ensures (c.name_line-end.ensures.value, c.name_line-end.ensures.out_after) in
-    omega (
-      arith,
-      run_ends a.out.now a.at 0 (line_piece a.ram.now a.tags.now) l.out l.end l.i 44 (line_most a.ram.now a.tags.now) l.invariant.1,
-      l.invariant.0,
-      n.0,
-      line_most a.ram.now a.tags.now l.i,
-      c.requires.1,
-      c.requires.2,
-    )
-
-pub loop-i-preserved : goal.loop-i-preserved
-loop-i-preserved c = let l = c.loop-i in
-    let a = c.args in
-    let n = line_told a.ram.now a.tags.now l.out _ l.i l.end _ _ c.tag_of-tag.ensures (c.name_line-end.ensures.value, c.name_line-end.ensures.out_after) in
-    (omega arith, run_next a.out.now a.at 0 (line_piece a.ram.now a.tags.now) l.out _ l.end _ l.i l.i (omega arith) (ap (λ k. l.end + k) n.0) l.invariant.1 n.1)
+pub put_each-requires-clause-short : goal.put_each-requires-clause-short
+put_each-requires-clause-short c = λ i end n o o' low high e.
+    let part = take (i * 32 + 32 - i * 32) (drop (i * 32) c.args.ram.now) in
+    let f : n ≡ length (line_named (RAM_BASE + i * 32) (tag_of c.args.tags.now i) part) = search rules in
+    omega (arith, f, line_most (RAM_BASE + i * 32) (tag_of c.args.tags.now i) part, length-take (i * 32 + 32 - i * 32) (drop (i * 32) c.args.ram.now))
 
 pub returns : goal.returns
 unfolding line_pieces
-returns c = let l = c.loop-i in
+returns c =
     let a = c.args in
-    run_all a.out.now a.at 0 (line_piece a.ram.now a.tags.now) l.out l.end (length a.tags.now) l.i c.loop-i-test.false l.invariant.0 l.invariant.1
-
-pub shape_of-out : goal.shape_of-out
-shape_of-out c = c.loop-i.invariant.1.kept
+    let ram = a.ram.now in
+    let tags = a.tags.now in
+    let all : length tags - 0 ≡ length tags = omega arith in
+    let runs = c.put_each.ensures (line_piece ram tags) (λ i end n o o' low high e.
+    let spelled = line_named (RAM_BASE + i * 32) (tag_of tags i) (take (i * 32 + 32 - i * 32) (drop (i * 32) ram)) in
+    let f : n ≡ length spelled = search rules in
+    let g : o'.now ≡ put o.now end spelled = search rules in
+    line_told ram tags o.now o'.now i end n (tag_of tags i) refl (f, g)) in
+    subst (λ (n : ℕ). Runs a.out.now a.at (pieces n 0 (line_piece ram tags)) c.put_each.new.out c.put_each.result) all runs

@@ -1,25 +1,12 @@
-use Prim.Native.Nat.{◌-◌}
-use mathlib.Core.Path.{sym, ◌∙◌}
-use native.Mathlib.Omega.{arith}
+use mathlib.Core.Path.{◌≡◌}
+use mathlib.Core.Bool.{true, false}
+use borrow.Author.Tests.{tests}
+use Rattle.std.proofs.Common.{rules}
+use Rattle.std.proofs.lemmas.Iterator.{cases_from_all, YieldsList-from_slice}
+use Rattle.manual.proofs.Scans.{told_each}
 use Rattle.manual.specs.Accept.{top_fits}
-use Rattle.manual.proofs.Scans.{begins, fails, passes, ends}
-use Rattle.start.proofs.caps_fit.Invariants.{test}
+use Rattle.manual.specs.Narrow.{null}
 use Rattle.start.proofs.caps_fit.Goals as goal
 
-pub returns-else-top_fits : goal.returns-else-top_fits
-returns-else-top_fits c = let l = c.loop-i in
-    let a = c.args in
-    fails (32) l.i (test a.caps) c.loop-i-test.true (sym c.top_fits.ensures ∙ c.if-top_fits.false) ∙ l.invariant.1
-
-pub loop-i-preserved : goal.loop-i-preserved
-loop-i-preserved c = let l = c.loop-i in
-    let a = c.args in
-    (omega arith, passes (32) l.i (test a.caps) c.loop-i-test.true (sym c.top_fits.ensures ∙ c.if-top_fits.true) ∙ l.invariant.1)
-
 pub returns : goal.returns
-returns c = let l = c.loop-i in
-    let a = c.args in
-    ends (32) l.i (test a.caps) c.loop-i-test.false ∙ l.invariant.1
-
-pub loop-i-init : goal.loop-i-init
-loop-i-init c = (omega arith, begins _ _)
+returns c = told_each top_fits _ null 32 (search rules) _ (cases_from_all _ _ _ (λ x. top_fits x ≡ true) (λ x. top_fits x ≡ false) c.all.ensures.ran (YieldsList-from_slice c.args.caps cc) (λ x q k. search (rules, tests)) (λ x q k. search (rules, tests)))

@@ -1,26 +1,14 @@
-use Prim.Native.Nat.{◌-◌}
-use mathlib.Core.Path.{sym, ◌∙◌}
+use mathlib.Core.Path.{◌≡◌}
+use mathlib.Core.Bool.{true, false}
+use borrow.Author.Tests.{tests}
+use Rattle.std.proofs.Common.{rules}
+use Rattle.std.proofs.lemmas.Iterator.{cases_from_all, YieldsList-from_range}
+use Rattle.manual.proofs.Scans.{told_below}
 use native.Mathlib.Omega.{arith}
 use lib.ListN.{length}
 use Rattle.manual.specs.Accept.{line_fits}
-use Rattle.manual.proofs.Scans.{begins, fails, passes, ends}
-use Rattle.start.proofs.lines_fit.Invariants.{test}
 use Rattle.start.proofs.lines_fit.Goals as goal
 
-pub returns-else-line_fits : goal.returns-else-line_fits
-returns-else-line_fits c = let l = c.loop-i in
-    let a = c.args in
-    fails (length a.tags.now) l.i (test a.ram.now a.tags.now) c.loop-i-test.true (sym c.line_fits.ensures ∙ c.if-line_fits.false) ∙ l.invariant.1
-
-pub loop-i-preserved : goal.loop-i-preserved
-loop-i-preserved c = let l = c.loop-i in
-    let a = c.args in
-    (omega arith, passes (length a.tags.now) l.i (test a.ram.now a.tags.now) c.loop-i-test.true (sym c.line_fits.ensures ∙ c.if-line_fits.true) ∙ l.invariant.1)
-
 pub returns : goal.returns
-returns c = let l = c.loop-i in
-    let a = c.args in
-    ends (length a.tags.now) l.i (test a.ram.now a.tags.now) c.loop-i-test.false ∙ l.invariant.1
-
-pub loop-i-init : goal.loop-i-init
-loop-i-init c = (omega arith, begins _ _)
+returns c = let fits = line_fits c.args.ram.now c.args.tags.now in
+    told_below _ fits _ (cases_from_all _ _ _ (λ x. fits x ≡ true) (λ x. fits x ≡ false) c.all.ensures.ran (YieldsList-from_range 0 (length c.args.tags.now) _ (cc) (omega arith)) (λ x q k. search (rules, tests)) (λ x q k. search (rules, tests)))

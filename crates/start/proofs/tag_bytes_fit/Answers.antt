@@ -1,27 +1,11 @@
-use Prim.Native.Nat.{◌-◌}
-use mathlib.Core.Path.{◌∙◌, ap}
-use mathlib.Core.Bool.{not}
-use native.Mathlib.Omega.{arith}
-use lib.ListN.{length}
-use borrow.Author.Tests.{lt-ltb, le-ltb}
-use Rattle.manual.proofs.Scans.{begins, fails, passes, ends}
-use Rattle.start.proofs.tag_bytes_fit.Invariants.{test}
+use mathlib.Core.Path.{◌≡◌}
+use mathlib.Core.Bool.{true, false, not}
+use borrow.Author.Tests.{tests}
+use Rattle.std.proofs.Common.{rules}
+use Rattle.std.proofs.lemmas.Iterator.{cases_from_all, YieldsList-from_slice}
+use Rattle.manual.proofs.Scans.{told_each}
+use lib.Dec.{ltb}
 use Rattle.start.proofs.tag_bytes_fit.Goals as goal
 
-pub returns-then-tags-i-gt1 : goal.returns-then-tags-i-gt1
-returns-then-tags-i-gt1 c = let l = c.loop-i in
-    let a = c.args in
-    fails (length a.tags.now) l.i (test a.tags.now) c.loop-i-test.true (ap not (lt-ltb _ _ c.if-tags-i-gt1.true)) ∙ l.invariant.1
-
-pub loop-i-preserved : goal.loop-i-preserved
-loop-i-preserved c = let l = c.loop-i in
-    let a = c.args in
-    (omega arith, passes (length a.tags.now) l.i (test a.tags.now) c.loop-i-test.true (ap not (le-ltb _ _ c.if-tags-i-gt1.false)) ∙ l.invariant.1)
-
 pub returns : goal.returns
-returns c = let l = c.loop-i in
-    let a = c.args in
-    ends (length a.tags.now) l.i (test a.tags.now) c.loop-i-test.false ∙ l.invariant.1
-
-pub loop-i-init : goal.loop-i-init
-loop-i-init c = (omega arith, begins _ _)
+returns c = told_each (λ t. not (ltb 1 t)) _ 0 _ (cc) _ (cases_from_all _ _ _ (λ t. not (ltb 1 t) ≡ true) (λ t. not (ltb 1 t) ≡ false) c.all.ensures.ran (YieldsList-from_slice c.args.tags.now cc) (λ x q k. search (rules, tests)) (λ x q k. search (rules, tests)))

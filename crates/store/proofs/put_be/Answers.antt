@@ -1,18 +1,8 @@
-use mathlib.Core.Path.{sym, ◌∙◌, ap}
-use Prim.Native.Nat.{◌+◌}
-use native.Mathlib.Omega.{arith}
-use borrow.Author.Tests.{leb-true, leb-false}
-use lib.ListN.{length}
+use Rattle.std.proofs.Common.{◌+◌, sym, ◌∙◌, ap, length, leb-true, leb-false}
 use Rattle.manual.specs.Number.{to_be}
 use Rattle.manual.proofs.Numbers.{length-to_be}
 use Rattle.manual.proofs.Stores.{put_part, put_out, length_part}
 use Rattle.store.proofs.put_be.Goals as goal
-
-pub overflow_add-e : goal.overflow_add-e
-overflow_add-e c = omega (arith, leb-true, sym c.within.ensures ∙ c.if-within.true)
-
-pub slice_bounds-store_be-end : goal.slice_bounds-store_be-end
-slice_bounds-store_be-end c = omega (arith, leb-true, sym c.within.ensures ∙ c.if-within.true)
 
 pub returns-then-within : goal.returns-then-within
 returns-then-within c = let a = c.args in

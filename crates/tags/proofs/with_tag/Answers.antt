@@ -1,12 +1,7 @@
-use mathlib.Core.Path.{sym, ap}
-use lib.ListN.{set}
-use lib.Seq.{set_out}
+use Rattle.std.proofs.Common.{sym}
+use Rattle.std.proofs.Math.Seq.{set_out}
 use Rattle.manual.specs.Store.{with_tag}
 use Rattle.tags.proofs.with_tag.Goals as goal
-
-pub returns-then-line-tags : goal.returns-then-line-tags
-unfolding with_tag
-returns-then-line-tags c = ap (set c.args.tags.now _) c.tag_byte.ensures
 
 pub returns-else-line-tags : goal.returns-else-line-tags
 unfolding with_tag

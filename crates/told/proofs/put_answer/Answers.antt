@@ -18,4 +18,4 @@ bounds-answer-3 c = rw (length-set, length-set, length-set) (omega arith)
 
 pub returns : goal.returns
 returns c = let a = c.args.a in
-    rw (le-leb 5 _ c.if-answer-lt-ANSWER_NUMBERS.false) (five_set c.args.answer.now a.stop a.cause a.register a.place a.steps c.if-answer-lt-ANSWER_NUMBERS.false)
+    rw (le-leb 5 _ c.if-answer-lt-ANSWER_NUMBERS.false, c.from.ensures, c.from-2.ensures, c.from-3.ensures, c.from-4.ensures) (five_set c.args.answer.now a.stop a.cause a.register a.place a.steps c.if-answer-lt-ANSWER_NUMBERS.false)

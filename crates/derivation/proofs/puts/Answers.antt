@@ -1,4 +1,0 @@
-use Rattle.derivation.proofs.puts.Goals as goal
-
-pub returns-then-passes : goal.returns-then-passes
-returns-then-passes c = rw c.if-passes.true

@@ -1,4 +1,0 @@
-use Rattle.immediate.proofs.signed_16.Goals as goal
-
-pub returns : goal.returns
-returns c = c.extend.ensures

@@ -1,4 +1,0 @@
-use Rattle.immediate.proofs.upper.Goals as goal
-
-pub returns : goal.returns
-returns c = c.extend.ensures

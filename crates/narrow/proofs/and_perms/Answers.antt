@@ -1,7 +1,0 @@
-use Rattle.std.proofs.Common.{refl}
-use Rattle.manual.specs.Narrow.{and_perms}
-use Rattle.narrow.proofs.and_perms.Goals as goal
-
-pub returns : goal.returns
-unfolding and_perms
-returns c = refl

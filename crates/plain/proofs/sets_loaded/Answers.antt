@@ -1,4 +1,0 @@
-use Rattle.plain.proofs.sets_loaded.Goals as goal
-
-pub returns-in-Value : goal.returns-in-Value
-returns-in-Value c = rw c.in-Value.is

@@ -1,4 +1,0 @@
-use Rattle.steps.proofs.gather.Goals as goal
-
-pub returns : goal.returns
-returns c = rw (c.field_10-n10.ensures, c.field_15-n15.ensures, c.field_20-n20.ensures, c.field_25-n25.ensures)

@@ -1,4 +1,0 @@
-use Rattle.way.proofs.waiting.Goals as goal
-
-pub returns-then-way : goal.returns-then-way
-returns-then-way c = rw (c.if-way.true, ← c.set_offset.ensures)
