@@ -23,7 +23,7 @@ pub fn stop_number(fault: Fault) -> u8
     }
 }
 
-// The cause where a permission is lacking.
+// The cause where a permission is lacking; a function and no From, since it is a cause of one kind alone.
 pub fn lacking_cause(permission: u32) -> u8
     ensures { result ≡ lacking permission }
 {

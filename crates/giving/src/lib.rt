@@ -13,7 +13,7 @@ use pages::PCC;
 // Where the last record of the registers ends.
 pub const REGISTERS: usize = 1627;
 
-// C0 to C31, one record each.
+// C0 to C31, one record each. As in `spell`, with `put` for `name`: a closure each, and nothing else is alike.
 fn put_caps(caps: &[Cap; 32], out: &mut [u8], at: usize) -> usize
     requires { at ≤ 2 ^ 16 }
     ensures { Runs out.old at (cap_records caps.now) out.new result }

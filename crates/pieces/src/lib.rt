@@ -72,7 +72,7 @@ pub fn next_body<R: Read>(input: &mut R, space: &mut [u8]) -> usize
     tables::read_full(input, &mut space[..n])
 }
 
-// Runs the body of each case of the input, read into this space, until there is none or a run fails.
+// Runs the body of each case of the input, read into this space, until there is none or a run fails. A length is cut here, as `Read` answers one.
 pub fn each_case<R: Read, F: FnMut(&[u8]) -> io::Result<()>>(
     input: &mut R,
     space: &mut [u8],

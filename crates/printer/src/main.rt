@@ -2,7 +2,7 @@
 // place, steps (01, "Bench examples").
 #![tactic(auto)]
 
-ghost use Rattle.std.specs.Prelude.{replicate, OnOk};
+ghost use Rattle.std.specs.Prelude.{◌≤◌, length, replicate, OnOk};
 ghost use Rattle.std.specs.Io.KnownBytes.{Appends};
 ghost use Rattle.pages.specs.Bench.{bench_of};
 ghost use Rattle.tables.specs.Lines.{answer_line};
@@ -16,7 +16,9 @@ use std::{fs, io};
 const MOST_READ: usize = FILE_MOST + 1;
 
 // The file's bytes, read into the space; none of one that cannot be opened or read.
-fn read_file<'a, R: Files>(rt: &R, path: &str, space: &'a mut [u8]) -> &'a [u8] {
+fn read_file<'a, R: Files>(rt: &R, path: &str, space: &'a mut [u8]) -> &'a [u8]
+    ensures { length result.now ≤ length space.old }
+{
     let length = match fs::open(rt, path) {
         Ok(mut file) => tables::read_full(&mut file, space),
         Err(_) => 0,

@@ -72,7 +72,7 @@ fn print<W: Write>(to: &mut W, n: u64, end: u8) -> io::Result<()>
     to.write_all(&[end])
 }
 
-// A line of numbers.
+// A line of numbers. No Display: of the lines printed one alone, an answer's, is of a type.
 pub fn print_line<W: Write>(to: &mut W, numbers: &[u64]) -> io::Result<()>
     ensures { OnOk result (Appends (W.contents to.old) (W.contents to.new) (line numbers.now)) }
 {
