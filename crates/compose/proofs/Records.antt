@@ -18,6 +18,11 @@ fields_more (f ∷ fs) (suc i) d h =
     ap (λ x. to_be f.0 f.1 ++ x) (fields_more fs i d (omega arith))
     ∙ sym (append_assoc (to_be f.0 f.1) (fields (take i fs)) (to_be (get_or fs i d).0 (get_or fs i d).1))
 
+pub fields_longer : (fs : List (ℕ × ℕ)) (i : ℕ) (d : ℕ × ℕ) → i < length fs → length (fields (take (i + 1) fs)) ≡ length (fields (take i fs)) + (get_or fs i d).0
+fields_longer fs i d h =
+    let f = get_or fs i d in
+    rw add-one (ap length (fields_more fs i d h) ∙ rw (length-append, length-to_be f.0 f.1))
+
 -- the fields so far are no longer than all of them
 fields_front : (fs : List (ℕ × ℕ)) (i : ℕ) → length (fields (take i fs)) ≤ length (fields fs)
 unfolding fields

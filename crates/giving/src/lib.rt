@@ -21,7 +21,7 @@ fn put_caps(caps: &[Cap; 32], out: &mut [u8], at: usize) -> usize
     let put = |i: usize, out: &mut [u8], end: usize| {
         Register {
             number: i as u8,
-            cap: caps[i],
+            cap: &caps[i],
         }
         .put(out, end)
     };
@@ -55,7 +55,7 @@ pub fn put_registers(m: Machine, out: &mut [u8])
     let caps = put_caps(&m.caps, out, 1);
     let pcc = Register {
         number: PCC,
-        cap: m.pcc,
+        cap: &m.pcc,
     };
     let all = caps + pcc.put(out, caps);
     put_generals(&m.general, out, all);

@@ -28,7 +28,7 @@ pub fn put_cap(out: &mut [u8], at: usize, number: u8, c: Cap)
         (8, c.length),
         (8, c.offset.0),
     ];
-    compose::put_record(out, at, CAP_RECORD, &values, &[]);
+    compose::put_record(out, at, &values, &[]);
 }
 
 // Kind 2: a general register; nothing where the record does not fit.
@@ -36,5 +36,5 @@ pub fn put_general(out: &mut [u8], at: usize, number: u8, value: u64)
     ensures { out.new ≡ put out.old at (record_of (general_body number value)) }
 {
     let values = [(1, 2), (1, u64::from(number)), (8, value)];
-    compose::put_record(out, at, GENERAL_RECORD, &values, &[]);
+    compose::put_record(out, at, &values, &[]);
 }

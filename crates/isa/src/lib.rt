@@ -6,12 +6,15 @@ ghost use Rattle.manual.specs.Decode.{if_zero, is_jump_word};
 
 use manual::Instr;
 
-// The field of five bits of a word from bit `LOW` on.
+// The field of five bits of a word from bit `LOW` on; none of its bits lies past the word's top.
 pub fn field<const LOW: u32>(word: u32) -> u8
-    requires { LOW < 32 }
     ensures { result ≡ word / 2 ^ LOW % 32 }
 {
-    ((word >> LOW) % 32) as u8
+    if LOW < 32 {
+        ((word >> LOW) % 32) as u8
+    } else {
+        0
+    }
 }
 
 // The instruction, if a field that it does not use is zero.

@@ -42,25 +42,25 @@ pub trait Recorded: Copy {
     }
 }
 
-// A capability register, or PCC.
+// A capability register, or PCC. Its capability is lent: to copy it for each register took longer than all else.
 #[derive(Clone, Copy)]
-pub struct Register {
+pub struct Register<'a> {
     pub number: u8,
-    pub cap: Cap,
+    pub cap: &'a Cap,
 }
 
-impl Recorded for Register {
-    ghost spelled = { λ r. record_of (cap_body r.number r.cap) };
+impl<'a> Recorded for Register<'a> {
+    ghost spelled = { λ r. record_of (cap_body r.number r.cap.now) };
 
-    ghost nothing = { λ r. zero_cap r.cap };
+    ghost nothing = { λ r. zero_cap r.cap.now };
 
     fn put(self, out: &mut [u8], at: usize) -> usize {
-        inscribe::put_cap(out, at, self.number, self.cap);
+        inscribe::put_cap(out, at, self.number, *self.cap);
         CAP_RECORD
     }
 
     fn is_zero(self) -> bool {
-        compose::is_zero(self.cap)
+        compose::is_zero(*self.cap)
     }
 }
 
@@ -109,22 +109,22 @@ impl<'a> Recorded for Line<'a> {
     }
 }
 
-// What numbers have to say, each put by `step` behind the one before; where the last one ends.
+// What numbers have to say, each put by `step` behind the one before; where the last one ends. Of a step that puts more than the longest record,
+// or where so many of those do not end below 2^64, nothing is said.
 pub fn put_each<F: Fn(usize, &mut [u8], usize) -> usize>(
     numbers: Range<usize>,
     step: F,
     out: &mut [u8],
     at: usize,
 ) -> usize
-    requires callable { (i end : ℕ) (o : _) → numbers.start ≤ i → i < numbers.end → F.pre step i o end }
-    requires short { PutsAtMost numbers.start numbers.end (F.post step) MOST }
-    requires room { at + numbers.end * MOST < 2 ^ 64 }
-    ensures { (piece : ℕ → List ℕ) → Puts numbers.start numbers.end (F.post step) piece
+    requires { (i end : ℕ) (o : _) → numbers.start ≤ i → i < numbers.end → F.pre step i o end }
+    ensures { PutsAtMost numbers.start numbers.end (F.post step) MOST → at + numbers.end * MOST < 2 ^ 64
+        → (piece : ℕ → List ℕ) → Puts numbers.start numbers.end (F.post step) piece
         → Runs out.old at (pieces (numbers.end - numbers.start) numbers.start piece) out.new result }
 {
     let mut end = at;
     for i in numbers.start..numbers.end {
-        end += step(i, out, end);
+        end = end.saturating_add(step(i, out, end));
     }
     end
 }

@@ -69,10 +69,11 @@ pub fn store_be(part: &mut [u8], v: u64)
 // A number below `2 * HALF`, the weight of its top bit, with that bit carried on to 64 bits.
 #[tactic(auto, unfolding(manual::specs::Number::extend_from))]
 pub fn extend_from<const HALF: u64>(v: u64) -> u64
-    requires { 0 < HALF }
     ensures { result ≡ extend_from HALF v }
 {
-    if v / HALF % 2 == 1 {
+    if HALF == 0 {
+        v
+    } else if v / HALF % 2 == 1 {
         v % HALF + (u64::MAX - HALF + 1)
     } else {
         v % HALF

@@ -21,7 +21,7 @@ fn spell_caps(caps: &[Cap; 32], out: &mut [u8], at: usize) -> usize
     let name = |i: usize, out: &mut [u8], end: usize| {
         Register {
             number: i as u8,
-            cap: caps[i],
+            cap: &caps[i],
         }
         .name(out, end)
     };
@@ -69,7 +69,7 @@ fn spell_all(m: Machine, ram: &[u8], tags: &[u8], out: &mut [u8]) -> usize
     let named = spell_caps(&m.caps, out, 1);
     let pcc = Register {
         number: PCC,
-        cap: m.pcc,
+        cap: &m.pcc,
     };
     let all = named + pcc.name(out, named);
     let registers = spell_generals(&m.general, out, all);

@@ -1,4 +1,4 @@
-use Rattle.std.proofs.Common.{◌++◌, ◌+◌, ◌-◌, ◌≡◌, ◌≤◌, arith, append-nil, sym, ◌∙◌, length}
+use Rattle.std.proofs.Common.{◌++◌, ◌+◌, ◌-◌, ◌≡◌, ◌≤◌, ◌<◌, arith, length-append, append-nil, sym, ◌∙◌, length}
 use borrow.Author.Tests.{leb-true, leb-false}
 use Rattle.manual.proofs.Numbers.{length-to_be}
 use Rattle.manual.proofs.Stores.{put_out}
@@ -8,45 +8,48 @@ use Rattle.compose.proofs.put_record.Goals as goal
 
 pub loop-width-init : goal.loop-width-init
 unfolding fields
-loop-width-init c = record { put_so_far = rw append-nil c.put_be.ensures; ends = rw (append-nil, length-to_be 2 (c.args.size - 2)) }
+loop-width-init c = record { put_so_far = rw append-nil c.put_be.ensures; ends = rw (append-nil, length-to_be 2 (c.record_size-size.result - 2)) }
 
 pub overflow_sub-size : goal.overflow_sub-size
-overflow_sub-size c = omega (arith, c.requires, length_record (fields c.args.values.now ++ c.args.bytes.now))
+overflow_sub-size c = omega (arith, c.record_size-size.ensures)
 
 pub overflow_add-end-in-loop-width : goal.overflow_add-end-in-loop-width
 overflow_add-end-in-loop-width c =
     let a = c.args in
     let l = c.loop-width in
-    let size = c.requires ∙ length_record (fields a.values.now ++ a.bytes.now) in
-    let is : a.size - 2 ≡ length (fields a.values.now ++ a.bytes.now) = omega arith in
-    let fits : a.at + a.size ≤ length a.out.now = leb-true _ _ (sym c.within.ensures ∙ c.if-within.true) in
-    let room : a.at + (2 + (a.size - 2)) ≤ length a.out.now = omega arith in
-    omega (arith, field_fits a.out.now a.at (a.size - 2) a.values.now a.bytes.now is room l.width-index (0, 0) c.loop-width-test.true)
+    let size = c.record_size-size.result in
+    let fits : a.at + size ≤ length a.out.now = leb-true _ _ (sym c.within.ensures ∙ c.if-within.true) in
+    let is : size - 2 ≡ length (fields a.values.now ++ a.bytes.now) = omega (arith, c.record_size-size.ensures, length-append (fields a.values.now) a.bytes.now) in
+    let room : a.at + (2 + (size - 2)) ≤ length a.out.now = omega (arith, c.record_size-size.ensures) in
+    omega (arith, field_fits a.out.now a.at (size - 2) a.values.now a.bytes.now is room l.width-index (0, 0) c.loop-width-test.true)
 
 pub loop-width-preserved : goal.loop-width-preserved
 loop-width-preserved c =
     let a = c.args in
     let l = c.loop-width in
-    let size = c.requires ∙ length_record (fields a.values.now ++ a.bytes.now) in
-    let is : a.size - 2 ≡ length (fields a.values.now ++ a.bytes.now) = omega arith in
-    let fits : a.at + a.size ≤ length a.out.now = leb-true _ _ (sym c.within.ensures ∙ c.if-within.true) in
-    let room : a.at + (2 + (a.size - 2)) ≤ length a.out.now = omega arith in
+    let size = c.record_size-size.result in
+    let fits : a.at + size ≤ length a.out.now = leb-true _ _ (sym c.within.ensures ∙ c.if-within.true) in
+    let is : size - 2 ≡ length (fields a.values.now ++ a.bytes.now) = omega (arith, c.record_size-size.ensures, length-append (fields a.values.now) a.bytes.now) in
+    let room : a.at + (2 + (size - 2)) ≤ length a.out.now = omega (arith, c.record_size-size.ensures) in
     record {
-      put_so_far = c.put_be-in-loop-width.ensures ∙ field_put a.out.now a.at (a.size - 2) a.values.now a.bytes.now is room l.out l.end l.width-index (0, 0) c.loop-width-test.true l.invariant.put_so_far l.invariant.ends;
-      ends = field_ends a.out.now a.at (a.size - 2) a.values.now a.bytes.now is room l.end l.width-index (0, 0) c.loop-width-test.true l.invariant.ends;
+      put_so_far = c.put_be-in-loop-width.ensures ∙ field_put a.out.now a.at (size - 2) a.values.now a.bytes.now is room l.out l.end l.width-index (0, 0) c.loop-width-test.true l.invariant.put_so_far l.invariant.ends;
+      ends = field_ends a.out.now a.at (size - 2) a.values.now a.bytes.now is room l.end l.width-index (0, 0) c.loop-width-test.true l.invariant.ends;
     }
 
 pub returns-after-loop-width : goal.returns-after-loop-width
 returns-after-loop-width c =
     let a = c.args in
     let l = c.loop-width in
-    let size = c.requires ∙ length_record (fields a.values.now ++ a.bytes.now) in
-    let is : a.size - 2 ≡ length (fields a.values.now ++ a.bytes.now) = omega arith in
-    let fits : a.at + a.size ≤ length a.out.now = leb-true _ _ (sym c.within.ensures ∙ c.if-within.true) in
-    let room : a.at + (2 + (a.size - 2)) ≤ length a.out.now = omega arith in
-    c.put_bytes.ensures ∙ record_put a.out.now a.at (a.size - 2) a.values.now a.bytes.now is room l.out l.end l.width-index c.loop-width-test.false l.invariant.put_so_far l.invariant.ends
+    let size = c.record_size-size.result in
+    let fits : a.at + size ≤ length a.out.now = leb-true _ _ (sym c.within.ensures ∙ c.if-within.true) in
+    let is : size - 2 ≡ length (fields a.values.now ++ a.bytes.now) = omega (arith, c.record_size-size.ensures, length-append (fields a.values.now) a.bytes.now) in
+    let room : a.at + (2 + (size - 2)) ≤ length a.out.now = omega (arith, c.record_size-size.ensures) in
+    c.put_bytes.ensures ∙ record_put a.out.now a.at (size - 2) a.values.now a.bytes.now is room l.out l.end l.width-index c.loop-width-test.false l.invariant.put_so_far l.invariant.ends
 
 pub returns-else-within : goal.returns-else-within
-returns-else-within c = let a = c.args in
-    sym (put_out a.out.now a.at (record_of (fields a.values.now ++ a.bytes.now))
-    (rw (← c.requires) (leb-false (a.at + a.size) (length a.out.now) (sym c.within.ensures ∙ c.if-within.false))))
+returns-else-within c =
+    let a = c.args in
+    let size = c.record_size-size.result in
+    let out : length a.out.now < a.at + size = leb-false _ _ (sym c.within.ensures ∙ c.if-within.false) in
+    let all = length_record (fields a.values.now ++ a.bytes.now) in
+    sym (put_out a.out.now a.at (record_of (fields a.values.now ++ a.bytes.now)) (omega (arith, all, c.record_size-size.ensures, length-append (fields a.values.now) a.bytes.now)))

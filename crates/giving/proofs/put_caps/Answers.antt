@@ -5,11 +5,12 @@ use Rattle.pages.specs.Registers.{cap_records}
 use Rattle.pages.proofs.Fields.{cap_bytes_lem}
 use Rattle.giving.proofs.put_caps.Goals as goal
 
-pub put_each-requires-clause-short : goal.put_each-requires-clause-short
-put_each-requires-clause-short c = λ i end n o o' low high e.
-    let f : n ≡ length (record_of (cap_body i (get_or c.args.caps.now i null))) = search rules in
-    omega (arith, f, cap_bytes_lem i (get_or c.args.caps.now i null))
-
 pub returns : goal.returns
 unfolding cap_records
-returns c = c.put_each.ensures (λ i. record_of (cap_body i (get_or c.args.caps.now i null))) (λ i end n o o' low high e. (search rules, search rules))
+returns c =
+    c.put_each.ensures
+    (λ i end n o o' low high e.
+    let f : n ≡ length (record_of (cap_body i (get_or c.args.caps.now i null))) = search rules in
+    omega (arith, f, cap_bytes_lem i (get_or c.args.caps.now i null)))
+    (omega arith)
+    (λ i. record_of (cap_body i (get_or c.args.caps.now i null))) (λ i end n o o' low high e. (search rules, search rules))

@@ -1,11 +1,7 @@
 use Rattle.std.proofs.Common.{append-nil}
 use Rattle.pages.specs.Compose.{cap_body}
-use Rattle.pages.proofs.Fields.{length_fields}
-use Rattle.compose.proofs.Records.{byte_of_tag, length_record}
+use Rattle.compose.proofs.Records.{byte_of_tag}
 use Rattle.inscribe.proofs.put_cap.Goals as goal
-
-pub put_record-requires : goal.put_record-requires
-put_record-requires c = rw (append-nil, length_record, length_fields)
 
 pub returns : goal.returns
 unfolding cap_body

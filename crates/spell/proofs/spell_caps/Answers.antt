@@ -5,12 +5,12 @@ use Rattle.pages.specs.Spell.{cap_pieces}
 use Rattle.pages.proofs.Pieces.{cap_most}
 use Rattle.spell.proofs.spell_caps.Goals as goal
 
-pub put_each-requires-clause-short : goal.put_each-requires-clause-short
-unfolding cap_piece
-put_each-requires-clause-short c = λ i end n o o' low high e.
-    let f : n ≡ length (cap_piece i (get_or c.args.caps.now i null)) = search rules in
-    omega (arith, f, cap_most i (get_or c.args.caps.now i null))
-
 pub returns : goal.returns
 unfolding cap_pieces cap_piece
-returns c = c.put_each.ensures (λ i. cap_piece i (get_or c.args.caps.now i null)) (λ i end n o o' low high e. (search rules, search rules))
+returns c =
+    c.put_each.ensures
+    (λ i end n o o' low high e.
+    let f : n ≡ length (cap_piece i (get_or c.args.caps.now i null)) = search rules in
+    omega (arith, f, cap_most i (get_or c.args.caps.now i null)))
+    (omega arith)
+    (λ i. cap_piece i (get_or c.args.caps.now i null)) (λ i end n o o' low high e. (search rules, search rules))

@@ -4,12 +4,12 @@ use Rattle.pages.specs.Spell.{general_pieces}
 use Rattle.pages.proofs.Pieces.{general_most}
 use Rattle.spell.proofs.spell_generals.Goals as goal
 
-pub put_each-requires-clause-short : goal.put_each-requires-clause-short
-unfolding general_piece
-put_each-requires-clause-short c = λ i end n o o' low high e.
-    let f : n ≡ length (general_piece i (get_or c.args.general.now i 0)) = search rules in
-    omega (arith, f, general_most i (get_or c.args.general.now i 0))
-
 pub returns : goal.returns
 unfolding general_pieces general_piece
-returns c = c.put_each.ensures (λ i. general_piece i (get_or c.args.general.now i 0)) (λ i end n o o' low high e. (search rules, search rules))
+returns c =
+    c.put_each.ensures
+    (λ i end n o o' low high e.
+    let f : n ≡ length (general_piece i (get_or c.args.general.now i 0)) = search rules in
+    omega (arith, f, general_most i (get_or c.args.general.now i 0)))
+    (omega arith)
+    (λ i. general_piece i (get_or c.args.general.now i 0)) (λ i end n o o' low high e. (search rules, search rules))

@@ -8,12 +8,6 @@ use Rattle.pages.proofs.Books.{line_told}
 use Rattle.pages.proofs.Pieces.{line_most}
 use Rattle.spell.proofs.spell_lines.Goals as goal
 
-pub put_each-requires-clause-short : goal.put_each-requires-clause-short
-put_each-requires-clause-short c = λ i end n o o' low high e.
-    let part = take (i * 32 + 32 - i * 32) (drop (i * 32) c.args.ram.now) in
-    let f : n ≡ length (line_named (RAM_BASE + i * 32) (tag_of c.args.tags.now i) part) = search rules in
-    omega (arith, f, line_most (RAM_BASE + i * 32) (tag_of c.args.tags.now i) part, length-take (i * 32 + 32 - i * 32) (drop (i * 32) c.args.ram.now))
-
 pub returns : goal.returns
 unfolding line_pieces
 returns c =
@@ -21,7 +15,13 @@ returns c =
     let ram = a.ram.now in
     let tags = a.tags.now in
     let all : length tags - 0 ≡ length tags = omega arith in
-    let runs = c.put_each.ensures (line_piece ram tags) (λ i end n o o' low high e.
+    let runs = c.put_each.ensures
+    (λ i end n o o' low high e.
+    let part = take (i * 32 + 32 - i * 32) (drop (i * 32) c.args.ram.now) in
+    let f : n ≡ length (line_named (RAM_BASE + i * 32) (tag_of c.args.tags.now i) part) = search rules in
+    omega (arith, f, line_most (RAM_BASE + i * 32) (tag_of c.args.tags.now i) part, length-take (i * 32 + 32 - i * 32) (drop (i * 32) c.args.ram.now)))
+    (omega arith)
+    (line_piece ram tags) (λ i end n o o' low high e.
     let spelled = line_named (RAM_BASE + i * 32) (tag_of tags i) (take (i * 32 + 32 - i * 32) (drop (i * 32) ram)) in
     let f : n ≡ length spelled = search rules in
     let g : o'.now ≡ put o.now end spelled = search rules in
