@@ -76,12 +76,15 @@ fn print<W: Write>(to: &mut W, n: u64, end: u8) -> io::Result<()>
 pub fn print_line<W: Write>(to: &mut W, numbers: &[u64]) -> io::Result<()>
     ensures { OnOk result (Appends (W.contents to.old) (W.contents to.new) (line numbers.now)) }
 {
-    match numbers {
-        [] => Ok(()),
-        [last] => print(to, *last, b'\n'),
-        [first, more @ ..] => {
-            print(to, *first, b' ')?;
-            print_line(to, more)
+    let mut rest = numbers;
+    loop {
+        match rest {
+            [] => return Ok(()),
+            [last] => return print(to, *last, b'\n'),
+            [first, more @ ..] => {
+                print(to, *first, b' ')?;
+                rest = more;
+            }
         }
     }
 }
