@@ -1,5 +1,5 @@
 -- The fields of a record, written one after the other. Assumes nothing.
-use Rattle.std.proofs.Common.{Bool, true, false, ℕ, suc, ◌+◌, ◌<◌, ◌≤◌, ◌≡◌, refl, sym, ◌∙◌, ap, List, [], ◌∷◌, ◌++◌, length, get_or, take, arith, append_assoc, append-nil, length-append, add-one}
+use Rattle.std.proofs.Common.{Bool, true, false, ℕ, suc, ◌+◌, ◌-◌, ◌^◌, ◌<◌, min, ◌≤◌, ◌≡◌, refl, sym, ◌∙◌, ap, List, [], ◌∷◌, ◌++◌, length, get_or, take, arith, append_assoc, append-nil, length-append, add-one}
 use Prim.Native.Nat.{zero}
 use mir.Val.{bool_byte}
 use lib.Seq.{take_all}
@@ -30,6 +30,11 @@ fields_front [] zero = omega arith
 fields_front [] (suc i) = omega arith
 fields_front (f ∷ fs) zero = omega arith
 fields_front (f ∷ fs) (suc i) = simp length-append (omega (arith, fields_front fs i))
+
+-- of a size with room the body has the rest
+pub sized : (out : List ℕ) (at size : ℕ) (fs : List (ℕ × ℕ)) (bytes : List ℕ) → size ≡ min (2 ^ 64 - 1) (2 + (length (fields fs) + length bytes)) → length out < 2 ^ 64 - 1 → at + size ≤ length out
+    → (size - 2 ≡ length (fields fs ++ bytes)) × (at + (2 + (size - 2)) ≤ length out)
+sized out at size fs bytes e h k = (omega (arith, e, length-append (fields fs) bytes), omega (arith, e))
 
 -- a record so far: its length and the first fields
 module _ (out : List ℕ) (at body : ℕ) (fs : List (ℕ × ℕ)) (bytes : List ℕ) (is : body ≡ length (fields fs ++ bytes)) (room : at + (2 + body) ≤ length out) where

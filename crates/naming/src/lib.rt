@@ -109,8 +109,8 @@ impl<'a> Recorded for Line<'a> {
     }
 }
 
-// What numbers have to say, each put by `step` behind the one before; where the last one ends. Of a step that puts more than the longest record,
-// or where so many of those do not end below 2^64, nothing is said.
+// What numbers have to say, each put by `step` behind the one before; where the last one ends. Nothing is said of a step that puts more than the
+// longest record, or where `numbers.end` of those do not end below 2^64.
 pub fn put_each<F: Fn(usize, &mut [u8], usize) -> usize>(
     numbers: Range<usize>,
     step: F,
